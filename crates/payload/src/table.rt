@@ -1,0 +1,281 @@
+// The type table, its rules, and its rows as numbers.
+
+ghost use mathlib.Core.Path.{_≡_};
+ghost use Prim.Native.Nat.{_≤_, _<_};
+ghost use lib.ListN.{length, drop};
+ghost use lib.Dec.{leb};
+ghost use Rattle.wire.specs.Choose.{and};
+ghost use Rattle.payload.specs.Table.{elemFits, structFits, rowFits, levelMost, widthFits, find, identsDiffer, tableFits};
+ghost use Rattle.payload.specs.Cells.{bitOf, cellOf, identIn, levelIn, kindIn, elemIn, requiredIn, tableIn, FineRow, FineTable, foundAt, missed, Within, Checked};
+
+// A type row: level 1 to 4, Data ID 0 to 4,095, kind 1 to 14, an array's element kind, and whether the row is required.
+pub struct TypeRow {
+    pub level: u8,
+    pub ident: u16,
+    pub kind: u8,
+    pub elem: u8,
+    pub required: bool,
+}
+
+// A type table: the first `count` of its rows, depth first; the width of its length fields; and whether the writer uses the static wire
+// type 4 or tells the width in the tag.
+pub struct Table {
+    pub rows: [TypeRow; 64],
+    pub count: usize,
+    pub width: usize,
+    pub fixed: bool,
+}
+
+// A row's index, or no row.
+pub enum Found {
+    At(usize),
+    Nothing,
+}
+
+// The level of a cell's row.
+pub fn level_in(c: u64) -> u64
+    ensures { λ r. ⌜ r ≡ levelIn c ⌝ }
+{
+    c / 512 % 16
+}
+
+// The kind of a cell's row.
+pub fn kind_in(c: u64) -> usize
+    ensures { λ r. ⌜ r ≡ kindIn c ⌝ }
+{
+    (c / 32 % 16) as usize
+}
+
+// The element kind of a cell's row.
+pub fn elem_in(c: u64) -> usize
+    ensures { λ r. ⌜ r ≡ elemIn c ⌝ }
+{
+    (c / 2 % 16) as usize
+}
+
+// The Data ID of a cell's row.
+pub fn ident_in(c: u64) -> u64
+    ensures { λ r. ⌜ r ≡ identIn c ⌝ }
+{
+    c / 8192
+}
+
+// Whether a cell's row is required.
+pub fn is_required(c: u64) -> bool
+    ensures { λ r. ⌜ r ≡ requiredIn c ⌝ }
+{
+    c % 2 == 1
+}
+
+// A byte as a wide number, for arithmetic that a byte is too small for.
+fn wide(x: u8) -> u64
+    ensures { λ r. ⌜ r ≡ x ⌝ }
+{
+    x as u64
+}
+
+// A Data ID as a wide number, as above.
+fn wide16(x: u16) -> u64
+    ensures { λ r. ⌜ r ≡ x ⌝ }
+{
+    x as u64
+}
+
+// A level as an index of the array of levels.
+fn index(x: u8) -> usize
+    ensures { λ r. ⌜ r ≡ x ⌝ }
+{
+    x as usize
+}
+
+// A cell's bit for required.
+fn bit_of(b: bool) -> u64
+    ensures { λ r. ⌜ r ≡ bitOf b ⌝ }
+{
+    if b {
+        return 1;
+    }
+    0
+}
+
+// The cell of a row, so that the walks compare one number.
+fn packed(r: TypeRow) -> u64
+    requires { ⌜ FineRow r ⌝ }
+    ensures { λ x. ⌜ x ≡ cellOf r ⌝ }
+{
+    ((wide16(r.ident) * 16 + wide(r.level)) * 16 + wide(r.kind)) * 32
+        + wide(r.elem) * 2
+        + bit_of(r.required)
+}
+
+// The row of a Data ID among the direct members of the level whose rows begin at `first`. One test compares level and Data ID.
+pub fn find_row(cells: &[u64; 64], first: usize, count: usize, level: u64, ident: u64) -> Found
+    requires { ⌜ (count ≤ 64) × (level < 16) × (ident < 4096) ⌝ }
+    ensures { λ r. ⌜ (r ≡ foundAt first (find level ident (drop first (tableIn count (now (cells .entry)))))) × Within (now (cells .entry)) first count level r ⌝ }
+{
+    let key = ident * 16 + level;
+    let mut i = first;
+    while i < count {
+        let c = cells[i];
+        if c / 512 == key {
+            return Found::At(i);
+        }
+        if level_in(c) < level {
+            return Found::Nothing;
+        }
+        i += 1;
+    }
+    Found::Nothing
+}
+
+// Whether a row's element kind and, for a struct, its level are those of its kind.
+fn elem_fits(r: TypeRow) -> bool
+    ensures { λ x. ⌜ x ≡ and (elemFits r) (structFits r) ⌝ }
+{
+    if r.kind == 13 {
+        if r.elem == 0 {
+            return false;
+        }
+        return r.elem <= 11;
+    }
+    if r.elem != 0 {
+        return false;
+    }
+    if r.kind == 14 {
+        return r.level <= 3;
+    }
+    true
+}
+
+// Whether a row keeps its rules, where its level may be at most `most`.
+fn row_fits(r: TypeRow, most: u8) -> bool
+    requires { ⌜ most ≤ 4 ⌝ }
+    ensures { λ x. ⌜ x ≡ rowFits most r ⌝ }
+{
+    if r.level == 0 {
+        return false;
+    }
+    if most < r.level {
+        return false;
+    }
+    if 4095 < r.ident {
+        return false;
+    }
+    if r.kind == 0 {
+        return false;
+    }
+    if 14 < r.kind {
+        return false;
+    }
+    elem_fits(r)
+}
+
+// The level that the next row may have at most.
+fn level_most(r: TypeRow) -> u8
+    requires { ⌜ r .level ≤ 4 ⌝ }
+    ensures { λ x. ⌜ x ≡ levelMost r ⌝ }
+{
+    if r.kind == 14 {
+        return r.level + 1;
+    }
+    r.level
+}
+
+// Whether no row was found.
+fn is_nothing(f: Found) -> bool
+    ensures { λ r. ⌜ r ≡ missed f ⌝ }
+{
+    match f {
+        Found::At(_) => false,
+        Found::Nothing => true,
+    }
+}
+
+// Whether the Data IDs differ among the direct members of each struct and among the rows of level 1: each row is searched behind itself.
+fn all_differ(cells: &[u64; 64], count: usize) -> bool
+    requires { ⌜ FineTable count (now cells) ⌝ }
+    ensures { λ r. ⌜ r ≡ identsDiffer (tableIn count (now (cells .entry))) ⌝ }
+{
+    let mut i: usize = 0;
+    while i < count {
+        let c = cells[i];
+        let next = i + 1;
+        let found = find_row(cells, next, count, level_in(c), ident_in(c));
+        if !is_nothing(found) {
+            return false;
+        }
+        i = next;
+    }
+    true
+}
+
+// Whether a width is 1, 2 or 4.
+fn width_fits(w: usize) -> bool
+    ensures { λ r. ⌜ r ≡ widthFits w ⌝ }
+{
+    if w == 1 {
+        return true;
+    }
+    if w == 2 {
+        return true;
+    }
+    w == 4
+}
+
+// Whether the Data IDs still rise: they did, and the last one of the level, plus 1, is at most this one.
+fn rises(before: bool, last: u64, ident: u64) -> bool
+    ensures { λ r. ⌜ r ≡ and before (leb last ident) ⌝ }
+{
+    if before {
+        return last <= ident;
+    }
+    false
+}
+
+// Whether a table keeps its rules; its rows' cells are filled on the way. Where Data IDs rise in each struct, they differ; else they are
+// compared with each other.
+pub fn checked(t: Table, cells: &mut [u64; 64]) -> bool
+    requires { ⌜ length (now cells) ≡ 64 ⌝ }
+    ensures { λ r. ⌜ Checked t (now (cells .exit)) r ⌝ }
+{
+    let n = t.count;
+    if n == 0 {
+        return false;
+    }
+    if 64 < n {
+        return false;
+    }
+    if !width_fits(t.width) {
+        return false;
+    }
+    let mut lasts = [0u64; 6];
+    let mut rising = true;
+    let mut most: u8 = 1;
+    let mut i: usize = 0;
+    while i < n {
+        let r = t.rows[i];
+        if !row_fits(r, most) {
+            return false;
+        }
+        cells[i] = packed(r);
+        let l = index(r.level);
+        let id = wide16(r.ident);
+        rising = rises(rising, lasts[l], id);
+        lasts[l] = id + 1;
+        lasts[l + 1] = 0;
+        most = level_most(r);
+        i += 1;
+    }
+    if rising {
+        return true;
+    }
+    all_differ(cells, n)
+}
+
+// Whether a table keeps its rules.
+pub fn table_fits(t: Table) -> bool
+    ensures { λ r. ⌜ r ≡ tableFits t ⌝ }
+{
+    let mut cells = [0u64; 64];
+    checked(t, &mut cells)
+}

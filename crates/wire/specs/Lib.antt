@@ -1,0 +1,6 @@
+pub mod Choose
+pub mod Number
+pub mod Tag
+pub mod Kind
+pub mod Text
+pub mod Verdict
