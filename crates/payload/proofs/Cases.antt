@@ -22,10 +22,11 @@ use Rattle.payload.specs.Reading.{
   walk,
   walkedOf,
   answerOf,
+  checkedOf,
   readingOf,
 }
 use Rattle.payload.specs.Cases.{tableW, cases, CasesHold}
 
 pub cases-hold : CasesHold
-unfolding numberOf signedOf following follows textFrom stringFits rowFits rowsFit later find identsDiffer tableFits isAbsent numberRow shownOf contentOf lengthedOf bodyOf unknown contentFits known met stepOf behind memberBy lacks endOf levelBy walk walkedOf answerOf readingOf tableW cases
+unfolding numberOf signedOf following follows textFrom stringFits rowFits rowsFit later find identsDiffer tableFits isAbsent numberRow shownOf contentOf lengthedOf bodyOf unknown contentFits known met stepOf behind memberBy lacks endOf levelBy walk walkedOf answerOf checkedOf readingOf tableW cases
 cases-hold = refl

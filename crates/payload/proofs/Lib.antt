@@ -1,9 +1,9 @@
-mod Cases
 pub mod Joined
 pub mod CellLaws
 pub mod RowLaws
 pub mod Rising
 pub mod CheckLaws
+mod Cases
 mod Slices
 mod ContentLaws
 mod KeptLaws
@@ -11,3 +11,15 @@ mod LackLaws
 mod MemberLaws
 mod LevelLaws
 mod ReadLaws
+mod Walk
+mod Frame
+mod Follow
+mod Level
+mod Seen
+mod TreeLaws
+mod TreeCases
+mod Unique
+mod Accepted
+mod Bounds
+mod Refusals
+mod Inner

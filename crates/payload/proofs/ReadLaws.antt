@@ -20,7 +20,7 @@ use Rattle.payload.specs.declared.read.Walk.{Walk}
 use Rattle.payload.specs.declared.read.Walk.the-variants.{Going, Refused}
 use Rattle.payload.specs.Table.{typeRows, tableFits}
 use Rattle.payload.specs.Cells.{tableIn, Filled, Checked}
-use Rattle.payload.specs.Reading.{payloadMost, walkedOf, full, untouched, cleared, answerOf, readingOf}
+use Rattle.payload.specs.Reading.{payloadMost, walkedOf, full, untouched, cleared, answerOf, checkedOf, readingOf}
 use Rattle.payload.specs.Walking.{kept, walkIn, LevelRead}
 use Rattle.payload.proofs.KeptLaws.{kept-none}
 
@@ -57,12 +57,16 @@ module _ (p : List ℕ) (t : Table) (room : ℕ) (cells : List ℕ) (fits : Bool
     unfolding readingOf
     reading-room h x d = d ∙ rw (sym (k .answer) ∙ e, lt-ltb room (t .count) h)
 
-    module _ (h : t .count ≤ room) where
-      pub reading-large : payloadMost < length p → (x : Reading) → x ≡ cleared (t .count) Large 0 → x ≡ readingOf p t room
-      unfolding readingOf
-      reading-large l x d = d ∙ rw (sym (k .answer) ∙ e, le-ltb room (t .count) h, lt-ltb payloadMost (length p) l)
+    pub reading-checked : t .count ≤ room → (x : Reading) → x ≡ checkedOf p (tableIn (t .count) cells) (t .count) (t .width) → x ≡ readingOf p t room
+    unfolding readingOf
+    reading-checked h x d = d ∙ rw (k .filled e .rows-are, sym (k .answer) ∙ e, le-ltb room (t .count) h)
 
-      pub reading-walk : length p ≤ payloadMost → (x : Reading) → x ≡ answerOf (t .count) (walkedOf (t .width) (tableIn (t .count) cells) p) → x ≡ readingOf p t room
-      unfolding readingOf
-      reading-walk l x d =
-          d ∙ rw (k .filled e .rows-are, sym (k .answer) ∙ e, le-ltb room (t .count) h, le-ltb payloadMost (length p) l)
+-- 17, then the walk
+module _ (p : List ℕ) (types : List TypeRow) (count width : ℕ) where
+  pub checked-large : payloadMost < length p → (x : Reading) → x ≡ cleared count Large 0 → x ≡ checkedOf p types count width
+  unfolding checkedOf
+  checked-large l x d = d ∙ rw (lt-ltb payloadMost (length p) l)
+
+  pub checked-walk : length p ≤ payloadMost → (x : Reading) → x ≡ answerOf count (walkedOf width types p) → x ≡ checkedOf p types count width
+  unfolding checkedOf
+  checked-walk l x d = d ∙ rw (le-ltb payloadMost (length p) l)

@@ -4,4 +4,8 @@ pub mod Row
 pub mod Reading
 pub mod Walking
 pub mod Tree
+pub mod Formed
+pub mod Bounds
+pub mod Outcome
+pub mod Moved
 pub mod Cases

@@ -185,11 +185,15 @@ unfoldable pub answerOf : ℕ → Walked → Reading
 answerOf n (refused v place) = cleared n v place
 answerOf n (walked rows skipped) = record { verdict = Accepted; place = 0; skipped = skipped; filled = n; rows = full rows }
 
--- 1, 2, 17, then the walk. `room` is the number of lent rows.
+-- 17, then the walk
+unfoldable pub checkedOf : List ℕ → List TypeRow → ℕ → ℕ → Reading
+checkedOf p types count width =
+    pick (ltb payloadMost (length p)) (cleared count Large 0) (answerOf count (walkedOf width types p))
+
+-- 1, 2, then 17 and the walk. `room` is the number of lent rows.
 unfoldable pub readingOf : List ℕ → Table → ℕ → Reading
 readingOf p t room =
     pick (tableFits t)
     (pick (ltb room (t .count)) (untouched Room)
-    (pick (ltb payloadMost (length p)) (cleared (t .count) Large 0)
-    (answerOf (t .count) (walkedOf (t .width) (typeRows t) p))))
+    (checkedOf p (typeRows t) (t .count) (t .width)))
     (untouched NoTable)

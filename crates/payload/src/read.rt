@@ -11,7 +11,7 @@ ghost use Rattle.wire.specs.Number.{half};
 ghost use Rattle.wire.specs.Kind.{sizeOf, wireFits, string, array};
 ghost use Rattle.payload.specs.Cells.{rowIn, kindIn, tableIn, FineRow, FineTable};
 ghost use Rattle.payload.specs.Row.{numberRow, plain as plainRow};
-ghost use Rattle.payload.specs.Reading.{bodyOf, answerOf, walkedOf, cleared, readingOf, full};
+ghost use Rattle.payload.specs.Reading.{bodyOf, answerOf, walkedOf, cleared, checkedOf, readingOf, full};
 ghost use Rattle.payload.specs.Reading.{lacks as lacksOf};
 ghost use Rattle.payload.specs.Walking.{keptRow, kept, bodyIn, Inside, spotOf, innerOf, UnknownRead, ContentRead, KnownRead, Steady, MemberAt, Ready, LevelRead, MemberRead};
 use super::row::Row;
@@ -457,7 +457,7 @@ fn refusal(why: Verdict, place: usize, filled: usize) -> Reading
     }
 }
 
-// The reading under a checked table of `count` cells.
+// The answer of the walk over a payload, under a checked table of `count` cells.
 fn read_cells(p: &[u8], cells: &[u64; 64], count: usize, width: usize) -> Reading
     requires { ⌜ FineTable count (now cells) × (width ≤ 4) ⌝ }
     ensures { λ r. ⌜ r ≡ answerOf count (walkedOf width (tableIn count (now (cells .entry))) (now (p .entry))) ⌝ }
@@ -484,6 +484,17 @@ fn read_cells(p: &[u8], cells: &[u64; 64], count: usize, width: usize) -> Readin
     }
 }
 
+// Reads a payload under a checked table of `count` cells. For the library's own crates: they have checked the table.
+pub fn read_checked(p: &[u8], cells: &[u64; 64], count: usize, width: usize) -> Reading
+    requires { ⌜ FineTable count (now cells) × (width ≤ 4) ⌝ }
+    ensures { λ r. ⌜ r ≡ checkedOf (now (p .entry)) (tableIn count (now (cells .entry))) count width ⌝ }
+{
+    if PAYLOAD_MOST < p.len() {
+        return refusal(Verdict::Large, 0, count);
+    }
+    read_cells(p, cells, count, width)
+}
+
 // Reads a payload under a type table, where `room` value rows are lent. Any payload, table and number of rows gets one answer.
 pub fn read_payload(p: &[u8], t: Table, room: usize) -> Reading
     ensures { λ r. ⌜ r ≡ readingOf (now (p .entry)) t room ⌝ }
@@ -496,8 +507,5 @@ pub fn read_payload(p: &[u8], t: Table, room: usize) -> Reading
     if room < n {
         return refusal(Verdict::Room, 0, 0);
     }
-    if PAYLOAD_MOST < p.len() {
-        return refusal(Verdict::Large, 0, n);
-    }
-    read_cells(p, &cells, n, t.width)
+    read_checked(p, &cells, n, t.width)
 }

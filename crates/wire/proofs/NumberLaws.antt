@@ -30,11 +30,24 @@ use lib.Pow.{pow-add, pow-pos, mod-pow-add, mod-mod-pow, field, not-mod}
 use lib.Seq.{slice, sets, set-comm, take-suc, drop-append-le, length-take-le, slice-empty, length-slice, getD-drop}
 use borrow.Author.Tests.{lt-ltb, le-ltb, ltb-true, ltb-false}
 use Rattle.wire.specs.Choose.{pick}
-use Rattle.wire.specs.Number.{big, numberOf, numberBytes, half, signedOf, twosOf}
+use Rattle.wire.specs.Number.{AreBytes, big, numberOf, numberBytes, half, signedOf, twosOf}
 
--- a list of bytes
-abbrev pub Bytes : List ℕ → Type 0
-Bytes xs = (i : ℕ) → getD xs i 0 < 256
+-- ---- lists of bytes
+
+pub bytes-nil : AreBytes []
+bytes-nil i = omega arith
+
+pub bytes-cons : (x : ℕ) (xs : List ℕ) → x < 256 → AreBytes xs → AreBytes (x ∷ xs)
+bytes-cons x xs h t zero = h
+bytes-cons x xs h t (suc i) = t i
+
+pub bytes-left : (xs ys : List ℕ) → AreBytes (xs ++ ys) → AreBytes xs
+bytes-left [] ys h = bytes-nil
+bytes-left (x ∷ xs) ys h = bytes-cons x xs (h 0) (bytes-left xs ys (λ i. h (suc i)))
+
+pub bytes-right : (xs ys : List ℕ) → AreBytes (xs ++ ys) → AreBytes ys
+bytes-right [] ys h = h
+bytes-right (x ∷ xs) ys h = bytes-right xs ys (λ i. h (suc i))
 
 -- ---- the number that bytes are
 
@@ -46,25 +59,25 @@ number-snoc (y ∷ xs) x =
     let e : length xs + 1 ≡ suc (length xs) = add-one (length xs) in
     rw (length-append xs (x ∷ []), e, pow-suc 256 (length xs), number-snoc xs x, ← mul-assoc y (256 ^ length xs) 256) (omega arith)
 
-pub number-below : (xs : List ℕ) → Bytes xs → numberOf big xs < 256 ^ length xs
+pub number-below : (xs : List ℕ) → AreBytes xs → numberOf big xs < 256 ^ length xs
 unfolding numberOf
 number-below [] h = omega arith
 number-below (x ∷ xs) h =
     rw (pow-suc 256 (length xs))
     (omega (arith, number-below xs (λ i. h (suc i)), mul-le-mul-right (256 ^ length xs) (h 0)))
 
-pub bytes-take : (n : ℕ) (xs : List ℕ) → Bytes xs → Bytes (take n xs)
+pub bytes-take : (n : ℕ) (xs : List ℕ) → AreBytes xs → AreBytes (take n xs)
 bytes-take zero xs h i = omega arith
 bytes-take (suc n) [] h i = h i
 bytes-take (suc n) (x ∷ xs) h zero = h 0
 bytes-take (suc n) (x ∷ xs) h (suc i) = bytes-take n xs (λ j. h (suc j)) i
 
-pub bytes-append : (xs ys : List ℕ) → Bytes xs → Bytes ys → Bytes (xs ++ ys)
+pub bytes-append : (xs ys : List ℕ) → AreBytes xs → AreBytes ys → AreBytes (xs ++ ys)
 bytes-append [] ys h k i = k i
 bytes-append (x ∷ xs) ys h k zero = h 0
 bytes-append (x ∷ xs) ys h k (suc i) = bytes-append xs ys (λ j. h (suc j)) k i
 
-pub bytes-slice : (f t : ℕ) (xs : List ℕ) → Bytes xs → Bytes (slice f t xs)
+pub bytes-slice : (f t : ℕ) (xs : List ℕ) → AreBytes xs → AreBytes (slice f t xs)
 bytes-slice f t xs h i = rw (getD-drop f (take t xs) i 0) (bytes-take t xs h (f + i))
 
 -- ---- the bytes of a number
@@ -80,7 +93,7 @@ getD-numberBytes zero v i h = absurd (omega arith)
 getD-numberBytes (suc w) v zero h = let e : suc w - 1 - 0 ≡ w = omega arith in rw e
 getD-numberBytes (suc w) v (suc i) h = let e : suc w - 1 - suc i ≡ w - 1 - i = omega arith in rw e (getD-numberBytes w v i (omega arith))
 
-pub bytes-numberBytes : (w v : ℕ) → Bytes (numberBytes big w v)
+pub bytes-numberBytes : (w v : ℕ) → AreBytes (numberBytes big w v)
 unfolding numberBytes
 bytes-numberBytes zero v i = omega arith
 bytes-numberBytes (suc w) v zero = omega arith
@@ -115,7 +128,7 @@ same-bytes (suc w) v u e = cc (head v, head u, same-bytes w v u (sym (tail v) �
     tail : (n : ℕ) → n % 256 ^ suc w % 256 ^ w ≡ n % 256 ^ w
     tail n = rw (pow-more w, pow-bytes w) (mod-mod-pow n 8 (8 * w))
 
-pub bytes-back : (xs : List ℕ) → Bytes xs → numberBytes big (length xs) (numberOf big xs) ≡ xs
+pub bytes-back : (xs : List ℕ) → AreBytes xs → numberBytes big (length xs) (numberOf big xs) ≡ xs
 unfolding numberOf numberBytes
 bytes-back [] h = refl
 bytes-back (x ∷ xs) h =
@@ -196,13 +209,13 @@ module _ (p : List ℕ) (at i : ℕ) where
   pub read-more : at + i < length p → numberOf big (slice at (at + (i + 1)) p) ≡ numberOf big (slice at (at + i) p) * 256 + getD p (at + i) 0
   read-more h = rw (add-one i, slice-snoc h) (number-snoc (slice at (at + i) p) (getD p (at + i) 0))
 
-  pub read-below : at + i ≤ length p → Bytes p → numberOf big (slice at (at + i) p) < 256 ^ i
+  pub read-below : at + i ≤ length p → AreBytes p → numberOf big (slice at (at + i) p) < 256 ^ i
   read-below h b =
       let e : length (slice at (at + i) p) ≡ i = length-slice at (at + i) p h ∙ omega arith in
       rw e at (number-below (slice at (at + i) p) (bytes-slice at (at + i) p b))
 
   -- seven bytes leave room for one more
-  pub read-room : at + i ≤ length p → Bytes p → i < 8 → numberOf big (slice at (at + i) p) < 72057594037927936
+  pub read-room : at + i ≤ length p → AreBytes p → i < 8 → numberOf big (slice at (at + i) p) < 72057594037927936
   read-room h b few = lt-of-lt-of-le (read-below h b) (pow-le-pow-right {n = 256} (omega arith) {i = i} {j = 7} (omega arith))
 
 -- ---- one turn of the loop that writes, from the last byte to the first

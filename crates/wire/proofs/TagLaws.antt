@@ -7,9 +7,9 @@ use native.Mathlib.Omega.{arith}
 use lib.Dec.{eqb}
 use lib.ListN.{length}
 use Rattle.wire.specs.Choose.{pick}
-use Rattle.wire.specs.Number.{big, numberOf}
+use Rattle.wire.specs.Number.{AreBytes, big, numberOf}
 use Rattle.wire.specs.Tag.{reservedOf, wireOf, identOf, tagOf, tagBytes, fixedSize, fieldWidth}
-use Rattle.wire.proofs.NumberLaws.{Bytes, length-numberBytes, bytes-numberBytes, number-back}
+use Rattle.wire.proofs.NumberLaws.{length-numberBytes, bytes-numberBytes, number-back}
 
 module _ (reserved wire ident : ℕ) (r : reserved < 2) (w : wire < 8) (i : ident < 4096) where
   pub tag-below : tagOf reserved wire ident < 65536
@@ -44,7 +44,7 @@ module _ (wire ident : ℕ) where
   unfolding tagBytes
   length-tagBytes = length-numberBytes 2 (tagOf 0 wire ident)
 
-  pub bytes-tagBytes : Bytes (tagBytes wire ident)
+  pub bytes-tagBytes : AreBytes (tagBytes wire ident)
   unfolding tagBytes
   bytes-tagBytes = bytes-numberBytes 2 (tagOf 0 wire ident)
 

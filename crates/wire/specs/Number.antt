@@ -1,10 +1,14 @@
 -- Numbers as bytes (document 01, Members; source 001, 5.1.2): big-endian, signed ones in two's complement, floats by their bits.
-use Prim.Native.Nat.{ℕ, zero, suc, _+_, _-_, _*_, _/_, _%_, _^_}
+use Prim.Native.Nat.{ℕ, zero, suc, _+_, _-_, _*_, _/_, _%_, _^_, _<_}
 use mathlib.Core.List.{List, [], _∷_}
-use lib.ListN.{length}
+use lib.ListN.{length, getD}
 use lib.Dec.{ltb}
 use lib.IntN.{ℤ, pos, negsuc}
 use Rattle.wire.specs.Choose.{pick}
+
+-- a list of bytes
+abbrev pub AreBytes : List ℕ → Type 0
+AreBytes xs = (i : ℕ) → getD xs i 0 < 256
 
 -- the order of a number's bytes: in `big` the first byte is the highest
 pub data Order : Type 0 where

@@ -1,7 +1,7 @@
--- `payload::read::read_payload` meets its contract: the verdicts 1, 2, 17 in their order, then the walk.
+-- `payload::read::read_payload` meets its contract: the verdicts 1 and 2 in their order, then 17 and the walk.
 -- Assumes nothing.
 use borrow.Author.Tests.{not-true, not-false}
-use Rattle.payload.proofs.ReadLaws.{reading-table, reading-room, reading-large, reading-walk}
+use Rattle.payload.proofs.ReadLaws.{reading-table, reading-room, reading-checked}
 use borrow.Author.Needs.{needs}
 use Rattle.payload.proofs.read.read_payload.Statement.{statement}
 use Rattle.payload.proofs.read.read_payload.Tie as tie
@@ -21,17 +21,11 @@ refusal-requires-2 c κs = search needs
 returns-2 : tie.Need-returns-2
 returns-2 c = reading-room _ _ _ _ _ (c .before .before .before .checked .ensures) (not-false _ (c .before .before .if1 .left)) (c .before .if2 .taken) _ (c .refusal2 .ensures)
 
-refusal-requires-3 : tie.Need-refusal-requires-3
-refusal-requires-3 c κs = search needs
+read-checked-requires : tie.Need-read-checked-requires
+read-checked-requires c κs = let k = c .before .before .before .checked .ensures .filled (not-false _ (c .before .before .if1 .left)) in (k .fine, k .width-in)
 
 returns-3 : tie.Need-returns-3
-returns-3 c = reading-large _ _ _ _ _ (c .before .before .before .before .checked .ensures) (not-false _ (c .before .before .before .if1 .left)) (c .before .before .if2 .left) (c .before .if3 .taken) _ (c .refusal3 .ensures)
-
-read-cells-requires : tie.Need-read-cells-requires
-read-cells-requires c κs = let k = c .before .before .before .before .checked .ensures .filled (not-false _ (c .before .before .before .if1 .left)) in (k .fine, k .width-in)
-
-returns-4 : tie.Need-returns-4
-returns-4 c = reading-walk _ _ _ _ _ (c .before .before .before .before .before .checked .ensures) (not-false _ (c .before .before .before .before .if1 .left)) (c .before .before .before .if2 .left) (c .before .before .if3 .left) _ (c .read-cells .ensures)
+returns-3 c = reading-checked _ _ _ _ _ (c .before .before .before .before .checked .ensures) (not-false _ (c .before .before .before .if1 .left)) (c .before .before .if2 .left) _ (c .read-checked .ensures)
 
 pub read-payload-spec : {M : Type 1} → statement M
 read-payload-spec =
@@ -42,7 +36,5 @@ read-payload-spec =
     returns
     refusal-requires-2
     returns-2
-    refusal-requires-3
-    returns-3
-    read-cells-requires
-    returns-4)
+    read-checked-requires
+    returns-3)
