@@ -6,7 +6,7 @@ use native.Mathlib.Omega.{arith}
 use native.Mathlib.Numerals.{add-one}
 use mathlib.Core.Bool.{Bool, true, false}
 use mathlib.Core.List.{List, [], _∷_}
-use lib.ListN.{length, take, getD, set, length-set}
+use lib.ListN.{length, getD, set, length-set}
 use lib.Seq.{slice, slice-empty, slice-cons, getD-set-same, getD-set-other}
 use lib.Dec.{leb, eqb}
 use borrow.Author.Tests.{eqb-true, eqb-false}
@@ -14,7 +14,7 @@ use Rattle.wire.specs.Choose.{and}
 use Rattle.payload.specs.declared.table.TypeRow.{TypeRow}
 use Rattle.payload.specs.declared.table.Table.{Table}
 use Rattle.payload.specs.Table.{inRange, rowFits, levelMost, rowsFit, identsDiffer, typeRows, widthFits, tableFits, noRow, rowAt, RowRules}
-use Rattle.payload.specs.Cells.{cellOf, rowIn, rowsIn, tableIn, FineTable, Filled, Checked}
+use Rattle.payload.specs.Cells.{cellOf, rowIn, rowsIn, tableIn, FineTable, Checked}
 use Rattle.payload.proofs.Joined.{clash, and-left, and-right, refuted}
 use Rattle.payload.proofs.CellLaws.{cell-row}
 use Rattle.payload.proofs.RowLaws.{range-in, in-range, fits-rules, fine-row, most-in, width-small}

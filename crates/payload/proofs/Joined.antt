@@ -1,6 +1,6 @@
 -- Tests that are joined, taken apart and put together.
 -- Assumes nothing.
-use mathlib.Core.Path.{_≡_, refl, sym}
+use mathlib.Core.Path.{_≡_, refl}
 use Prim.Native.Nat.{ℕ}
 use native.Mathlib.Omega.{arith}
 use mathlib.Core.Bool.{Bool, true, false}
@@ -20,10 +20,6 @@ and-right false b e = clash e
 pub and-both : (a b : Bool) → a ≡ true → b ≡ true → and a b ≡ true
 and-both true b e h = h
 and-both false b e h = e
-
-pub and-none : (a : Bool) → and a false ≡ false
-and-none true = refl
-and-none false = refl
 
 -- what is not true is false
 pub refuted : (b : Bool) → (b ≡ true → ⊥) → b ≡ false

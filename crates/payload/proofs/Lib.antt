@@ -2,7 +2,9 @@ pub mod Joined
 pub mod CellLaws
 pub mod RowLaws
 pub mod Rising
+pub mod Spread
 pub mod CheckLaws
+pub mod TableLaws
 mod Cases
 mod Slices
 mod ContentLaws

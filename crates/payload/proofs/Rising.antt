@@ -2,19 +2,19 @@
 -- keeps, for each level, one more than the last Data ID of the struct that is open there.
 -- Assumes nothing.
 use mathlib.Core.Path.{_≡_, refl, sym, ap, _∙_}
-use Prim.Native.Nat.{ℕ, zero, suc, _+_, _≤_, _<_}
+use Prim.Native.Nat.{ℕ, _+_, _≤_, _<_}
 use native.Mathlib.Omega.{arith}
 use mathlib.Core.Bool.{Bool, true, false}
-use mathlib.Core.Option.{Option, none, some}
+use mathlib.Core.Option.{none, some}
 use mathlib.Core.List.{List, [], _∷_}
 use lib.ListN.{length, getD, set, length-set}
 use lib.Seq.{getD-set-same, getD-set-other}
 use lib.Dec.{leb, ltb, eqb}
-use borrow.Author.Tests.{lt-ltb, ltb-false, ne-eqb, eqb-true, eqb-false, leb-true}
+use borrow.Author.Tests.{ltb-false, ne-eqb, eqb-true, eqb-false, leb-true}
 use Rattle.wire.specs.Choose.{pick, and}
 use Rattle.payload.specs.declared.table.TypeRow.{TypeRow}
-use Rattle.payload.specs.Table.{rowFits, levelMost, rowsFit, later, find, isNone, identsDiffer, RowRules}
-use Rattle.payload.proofs.Joined.{and-left, and-right, and-both}
+use Rattle.payload.specs.Table.{rowFits, levelMost, rowsFit, later, find, identsDiffer, RowRules}
+use Rattle.payload.proofs.Joined.{and-left, and-right}
 use Rattle.payload.proofs.RowLaws.{fits-rules}
 
 -- a row's Data ID is the last of its level, and the level below starts anew

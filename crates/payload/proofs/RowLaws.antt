@@ -1,17 +1,17 @@
 -- The test of a row and the rules of a row say the same.
 -- Assumes nothing.
 use mathlib.Core.Path.{_≡_, refl, sym, ap, _∙_}
-use Prim.Native.Nat.{ℕ, zero, suc, _≤_, _<_}
+use Prim.Native.Nat.{ℕ, suc, _≤_, _<_, suc-le-suc}
 use native.Mathlib.Omega.{arith}
 use mathlib.Core.Bool.{Bool, true, false}
 use lib.Dec.{leb, eqb}
-use borrow.Author.Tests.{eq-eqb, ne-eqb, le-leb, lt-leb, leb-true, eqb-true, eqb-false}
+use borrow.Author.Tests.{eq-eqb, ne-eqb, le-leb, lt-leb, leb-true, leb-false, eqb-true, eqb-false}
 use Rattle.wire.specs.Choose.{pick, and}
 use Rattle.wire.specs.Kind.{array, struct}
 use Rattle.payload.specs.declared.table.TypeRow.{TypeRow}
 use Rattle.payload.specs.Table.{inRange, elemFits, structFits, rowFits, levelMost, widthFits, RowRules}
 use Rattle.payload.specs.Cells.{FineRow}
-use Rattle.payload.proofs.Joined.{clash, and-left, and-right, and-both, refuted}
+use Rattle.payload.proofs.Joined.{and-left, and-right, and-both, refuted}
 
 pub range-in : (a b x : ℕ) → inRange a b x ≡ true → (a ≤ x) × (x ≤ b)
 range-in a b x e = (leb-true a x (and-left (leb a x) (leb x b) e), leb-true x b (and-right (leb a x) (leb x b) e))
@@ -106,11 +106,14 @@ module _ (r : TypeRow) where
     pub elem-wrong : (r .elem ≡ 0 → ⊥) → false ≡ and (elemFits r) (structFits r)
     elem-wrong h = rw (ne-eqb (r .kind) array other, ne-eqb (r .elem) 0 h)
 
-    pub elem-struct : r .elem ≡ 0 → r .kind ≡ struct → leb (r .level) 3 ≡ and (elemFits r) (structFits r)
-    elem-struct h k = rw (ne-eqb (r .kind) array other, eq-eqb (r .elem) 0 h, eq-eqb (r .kind) struct k)
-
-    pub elem-plain : r .elem ≡ 0 → (r .kind ≡ struct → ⊥) → true ≡ and (elemFits r) (structFits r)
-    elem-plain h k = rw (ne-eqb (r .kind) array other, eq-eqb (r .elem) 0 h, ne-eqb (r .kind) struct k)
+    -- a struct stands at level 1 to 3 where the level behind it is at most 4
+    pub elem-next : r .level ≤ 4 → r .elem ≡ 0 → (m : ℕ) → m ≡ levelMost r → leb m 4 ≡ and (elemFits r) (structFits r)
+    elem-next h e m q = rw (ne-eqb (r .kind) array other, eq-eqb (r .elem) 0 e, q) (go (eqb (r .kind) struct) (leb (r .level) 3) refl)
+      where
+        go : (b c : Bool) → leb (r .level) 3 ≡ c → leb (pick b (suc (r .level)) (r .level)) 4 ≡ pick b (leb (r .level) 3) true
+        go true true d = rw d (le-leb (suc (r .level)) 4 (suc-le-suc (leb-true (r .level) 3 d)))
+        go true false d = rw d (lt-leb (suc (r .level)) 4 (suc-le-suc (leb-false (r .level) 3 d)))
+        go false c d = le-leb (r .level) 4 h
 
   -- ---- what the code needs of a row
 

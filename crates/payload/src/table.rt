@@ -1,12 +1,19 @@
 // The type table, its rules, and its rows as numbers.
 
 ghost use mathlib.Core.Path.{_≡_};
+ghost use mathlib.Core.Bool.{true};
 ghost use Prim.Native.Nat.{_≤_, _<_};
 ghost use lib.ListN.{length, drop};
 ghost use lib.Dec.{leb};
 ghost use Rattle.wire.specs.Choose.{and};
 ghost use Rattle.payload.specs.Table.{elemFits, structFits, rowFits, levelMost, widthFits, find, identsDiffer, tableFits};
 ghost use Rattle.payload.specs.Cells.{bitOf, cellOf, identIn, levelIn, kindIn, elemIn, requiredIn, tableIn, FineRow, FineTable, foundAt, missed, Within, Checked};
+
+const ARRAY: u8 = 13;
+
+const STRUCT: u8 = 14;
+
+use wire::number;
 
 // A type row: level 1 to 4, Data ID 0 to 4,095, kind 1 to 14, an array's element kind, and whether the row is required.
 pub struct TypeRow {
@@ -67,28 +74,21 @@ pub fn is_required(c: u64) -> bool
     c % 2 == 1
 }
 
-// A byte as a wide number, for arithmetic that a byte is too small for.
-fn wide(x: u8) -> u64
-    ensures { λ r. ⌜ r ≡ x ⌝ }
-{
-    x as u64
-}
-
-// A Data ID as a wide number, as above.
+// A Data ID as a wide number, for the same reason.
 fn wide16(x: u16) -> u64
     ensures { λ r. ⌜ r ≡ x ⌝ }
 {
     x as u64
 }
 
-// A level as an index of the array of levels.
+// A level as an index, for what is kept of each level.
 fn index(x: u8) -> usize
     ensures { λ r. ⌜ r ≡ x ⌝ }
 {
     x as usize
 }
 
-// A cell's bit for required.
+// The bit of a cell that says required.
 fn bit_of(b: bool) -> u64
     ensures { λ r. ⌜ r ≡ bitOf b ⌝ }
 {
@@ -98,17 +98,17 @@ fn bit_of(b: bool) -> u64
     0
 }
 
-// The cell of a row, so that the walks compare one number.
+// The cell of a row: a walk copies and compares one number where a row has five.
 fn packed(r: TypeRow) -> u64
     requires { ⌜ FineRow r ⌝ }
     ensures { λ x. ⌜ x ≡ cellOf r ⌝ }
 {
-    ((wide16(r.ident) * 16 + wide(r.level)) * 16 + wide(r.kind)) * 32
-        + wide(r.elem) * 2
+    ((wide16(r.ident) * 16 + number::wide(r.level)) * 16 + number::wide(r.kind)) * 32
+        + number::wide(r.elem) * 2
         + bit_of(r.required)
 }
 
-// The row of a Data ID among the direct members of the level whose rows begin at `first`. One test compares level and Data ID.
+// The row of a Data ID among the direct members of the level whose rows begin at `first`; one test compares level and Data ID.
 pub fn find_row(cells: &[u64; 64], first: usize, count: usize, level: u64, ident: u64) -> Found
     requires { ⌜ (count ≤ 64) × (level < 16) × (ident < 4096) ⌝ }
     ensures { λ r. ⌜ (r ≡ foundAt first (find level ident (drop first (tableIn count (now (cells .entry)))))) × Within (now (cells .entry)) first count level r ⌝ }
@@ -128,11 +128,23 @@ pub fn find_row(cells: &[u64; 64], first: usize, count: usize, level: u64, ident
     Found::Nothing
 }
 
-// Whether a row's element kind and, for a struct, its level are those of its kind.
+// The level that the next row may have at most: one more behind a struct.
+fn level_most(r: TypeRow) -> u8
+    requires { ⌜ r .level ≤ 4 ⌝ }
+    ensures { λ x. ⌜ x ≡ levelMost r ⌝ }
+{
+    if r.kind == STRUCT {
+        return r.level + 1;
+    }
+    r.level
+}
+
+// Whether a row's element kind fits its kind, and a struct its level: behind a struct at level 4 a row could have level 5.
 fn elem_fits(r: TypeRow) -> bool
+    requires { ⌜ r .level ≤ 4 ⌝ }
     ensures { λ x. ⌜ x ≡ and (elemFits r) (structFits r) ⌝ }
 {
-    if r.kind == 13 {
+    if r.kind == ARRAY {
         if r.elem == 0 {
             return false;
         }
@@ -141,10 +153,7 @@ fn elem_fits(r: TypeRow) -> bool
     if r.elem != 0 {
         return false;
     }
-    if r.kind == 14 {
-        return r.level <= 3;
-    }
-    true
+    level_most(r) <= 4
 }
 
 // Whether a row keeps its rules, where its level may be at most `most`.
@@ -170,18 +179,7 @@ fn row_fits(r: TypeRow, most: u8) -> bool
     elem_fits(r)
 }
 
-// The level that the next row may have at most.
-fn level_most(r: TypeRow) -> u8
-    requires { ⌜ r .level ≤ 4 ⌝ }
-    ensures { λ x. ⌜ x ≡ levelMost r ⌝ }
-{
-    if r.kind == 14 {
-        return r.level + 1;
-    }
-    r.level
-}
-
-// Whether no row was found.
+// Whether a search found no row.
 fn is_nothing(f: Found) -> bool
     ensures { λ r. ⌜ r ≡ missed f ⌝ }
 {
@@ -209,7 +207,41 @@ fn all_differ(cells: &[u64; 64], count: usize) -> bool
     true
 }
 
-// Whether a width is 1, 2 or 4.
+// Whether Data IDs differ in their last six bits already: a row leaves its struct's number at the place of its level and bits.
+fn spread(cells: &[u64; 64], count: usize) -> bool
+    requires { ⌜ FineTable count (now cells) ⌝ }
+    ensures { λ r. ⌜ (r ≡ true → identsDiffer (tableIn count (now (cells .entry))) ≡ true) ⌝ }
+{
+    let mut marks = [0u8; 320];
+    let mut owners = [1u8; 6];
+    let mut i: usize = 0;
+    while i < count {
+        let c = cells[i];
+        let l = level_in(c) as usize;
+        let place = l * 64 + (ident_in(c) % 64) as usize;
+        let owner = owners[l];
+        if marks[place] == owner {
+            return false;
+        }
+        marks[place] = owner;
+        owners[l + 1] = (i + 2) as u8;
+        i += 1;
+    }
+    true
+}
+
+// Whether the Data IDs differ among the direct members of each struct and among the rows of level 1; most tables need no search for it.
+fn idents_differ(cells: &[u64; 64], count: usize) -> bool
+    requires { ⌜ FineTable count (now cells) ⌝ }
+    ensures { λ r. ⌜ r ≡ identsDiffer (tableIn count (now (cells .entry))) ⌝ }
+{
+    if spread(cells, count) {
+        return true;
+    }
+    all_differ(cells, count)
+}
+
+// Whether a length width is 1, 2 or 4, as length fields have it.
 fn width_fits(w: usize) -> bool
     ensures { λ r. ⌜ r ≡ widthFits w ⌝ }
 {
@@ -222,7 +254,7 @@ fn width_fits(w: usize) -> bool
     w == 4
 }
 
-// Whether the Data IDs still rise: they did, and the last one of the level, plus 1, is at most this one.
+// Whether Data IDs still rise: they did before, and `last`, one more than the last of the struct, is at most this one.
 fn rises(before: bool, last: u64, ident: u64) -> bool
     ensures { λ r. ⌜ r ≡ and before (leb last ident) ⌝ }
 {
@@ -232,8 +264,7 @@ fn rises(before: bool, last: u64, ident: u64) -> bool
     false
 }
 
-// Whether a table keeps its rules; its rows' cells are filled on the way. Where Data IDs rise in each struct, they differ; else they are
-// compared with each other.
+// Whether a table keeps its rules, with its rows' cells. Data IDs that rise in each struct differ; only others are compared one by one.
 pub fn checked(t: Table, cells: &mut [u64; 64]) -> bool
     requires { ⌜ length (now cells) ≡ 64 ⌝ }
     ensures { λ r. ⌜ Checked t (now (cells .exit)) r ⌝ }
@@ -269,10 +300,10 @@ pub fn checked(t: Table, cells: &mut [u64; 64]) -> bool
     if rising {
         return true;
     }
-    all_differ(cells, n)
+    idents_differ(cells, n)
 }
 
-// Whether a table keeps its rules.
+// Whether a table keeps its rules, for a caller that has no use for the cells.
 pub fn table_fits(t: Table) -> bool
     ensures { λ r. ⌜ r ≡ tableFits t ⌝ }
 {

@@ -1,6 +1,6 @@
 -- `all_differ` meets its contract. The loop's invariant: the Data IDs differ if those from row i on do.
 -- Assumes nothing.
-use mathlib.Core.Path.{_≡_, refl, sym, ap, _∙_}
+use mathlib.Core.Path.{_≡_, refl, sym, _∙_}
 use Prim.Native.Nat.{_≤_, _-_}
 use native.Mathlib.Omega.{arith}
 use native.Mathlib.Numerals.{add-one}
@@ -12,12 +12,6 @@ use Rattle.payload.specs.Cells.{tableIn}
 use Rattle.payload.proofs.CellLaws.{differ-stop, differ-next, differ-end}
 use Rattle.payload.proofs.table.all_differ.Statement.{statement}
 use Rattle.payload.proofs.table.all_differ.Tie as tie
-use Rattle.payload.proofs.table.all_differ.Reads as reads
-use Rattle.payload.proofs.table.all_differ.Lts as lts
-use Rattle.payload.proofs.table.find_row.Reads as find-row-reads
-use Rattle.payload.proofs.table.ident_in.Reads as ident-in-reads
-use Rattle.payload.proofs.table.is_nothing.Reads as is-nothing-reads
-use Rattle.payload.proofs.table.level_in.Reads as level-in-reads
 
 abbrev Inv-loop : tie.InvT-loop
 Inv-loop cells count i₀ i = (i ≤ count) × (identsDiffer (tableIn count cells) ≡ identsDiffer (drop i (tableIn count cells)))

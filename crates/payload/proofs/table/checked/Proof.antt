@@ -13,16 +13,6 @@ use Rattle.payload.proofs.RowLaws.{fits-rules, fine-row}
 use Rattle.payload.proofs.CheckLaws.{refuse, Passed, passed-none, passed-stop, passed-next, all-fine, answer-differ, answer-rising}
 use Rattle.payload.proofs.table.checked.Statement.{statement}
 use Rattle.payload.proofs.table.checked.Tie as tie
-use Rattle.payload.proofs.table.checked.Reads as reads
-use Rattle.payload.proofs.table.checked.Lts as lts
-use Rattle.payload.proofs.table.all_differ.Reads as all-differ-reads
-use Rattle.payload.proofs.table.index.Reads as index-reads
-use Rattle.payload.proofs.table.level_most.Reads as level-most-reads
-use Rattle.payload.proofs.table.packed.Reads as packed-reads
-use Rattle.payload.proofs.table.rises.Reads as rises-reads
-use Rattle.payload.proofs.table.row_fits.Reads as row-fits-reads
-use Rattle.payload.proofs.table.wide16.Reads as wide16-reads
-use Rattle.payload.proofs.table.width_fits.Reads as width-fits-reads
 
 abbrev Inv-loop : tie.InvT-loop
 Inv-loop cells₀ t n lasts₀ rising₀ most₀ i₀ cells lasts rising most i = Passed t lasts₀ i most rising cells lasts
@@ -125,12 +115,12 @@ returns-5 : tie.Need-returns-5 Inv-loop μ-loop
 returns-5 c =
     answer-rising _ (long (c .before .before .before .before .before .before .before)) _ _ _ _ _ _ (c .before .before .loop .inv) (c .before .before .before .before .before .if2 .left) (c .before .loop-test .left) (omega (arith, c .before .before .before .before .before .before .if1 .left)) (sym (c .before .before .before .before .width-fits .ensures) ∙ not-false _ (c .before .before .before .if3 .left)) refl (c .if5 .taken)
 
-all-differ-requires : tie.Need-all-differ-requires Inv-loop μ-loop
-all-differ-requires c κs = all-fine _ (long (c .before .before .before .before .before .before .before .before)) _ _ _ _ _ _ (c .before .before .before .loop .inv) (c .before .before .before .before .before .before .if2 .left) (c .before .before .loop-test .left)
+idents-differ-requires : tie.Need-idents-differ-requires Inv-loop μ-loop
+idents-differ-requires c κs = all-fine _ (long (c .before .before .before .before .before .before .before .before)) _ _ _ _ _ _ (c .before .before .before .loop .inv) (c .before .before .before .before .before .before .if2 .left) (c .before .before .loop-test .left)
 
 returns-6 : tie.Need-returns-6 Inv-loop μ-loop
 returns-6 c =
-    answer-differ _ (long (c .before .before .before .before .before .before .before .before .before)) _ _ _ _ _ _ (c .before .before .before .before .loop .inv) (c .before .before .before .before .before .before .before .if2 .left) (c .before .before .before .loop-test .left) (omega (arith, c .before .before .before .before .before .before .before .before .if1 .left)) (sym (c .before .before .before .before .before .before .width-fits .ensures) ∙ not-false _ (c .before .before .before .before .before .if3 .left)) _ (c .all-differ .ensures)
+    answer-differ _ (long (c .before .before .before .before .before .before .before .before .before)) _ _ _ _ _ _ (c .before .before .before .before .loop .inv) (c .before .before .before .before .before .before .before .if2 .left) (c .before .before .before .loop-test .left) (omega (arith, c .before .before .before .before .before .before .before .before .if1 .left)) (sym (c .before .before .before .before .before .before .width-fits .ensures) ∙ not-false _ (c .before .before .before .before .before .if3 .left)) _ (c .idents-differ .ensures)
 
 pub checked-spec : {M : Type 1} → statement M
 checked-spec =
@@ -166,5 +156,5 @@ checked-spec =
     loop-less
     loop-again
     returns-5
-    all-differ-requires
+    idents-differ-requires
     returns-6)

@@ -1,6 +1,6 @@
 -- `find_row` meets its contract. The loop's invariant: the search from the level's first row is the search from row i.
 -- Assumes nothing.
-use mathlib.Core.Path.{_≡_, refl, sym, ap, _∙_}
+use mathlib.Core.Path.{_≡_, refl, sym, _∙_}
 use Prim.Native.Nat.{_≤_, _-_, _+_, _*_}
 use native.Mathlib.Omega.{arith}
 use native.Mathlib.Numerals.{add-one}
@@ -11,9 +11,6 @@ use Rattle.payload.specs.Cells.{tableIn, foundAt}
 use Rattle.payload.proofs.CellLaws.{find-end, find-this, find-above, find-next}
 use Rattle.payload.proofs.table.find_row.Statement.{statement}
 use Rattle.payload.proofs.table.find_row.Tie as tie
-use Rattle.payload.proofs.table.find_row.Reads as reads
-use Rattle.payload.proofs.table.find_row.Lts as lts
-use Rattle.payload.proofs.table.level_in.Reads as level-in-reads
 
 abbrev Inv-loop : tie.InvT-loop
 Inv-loop cells first count level ident key i₀ i =

@@ -5,8 +5,6 @@ use native.Mathlib.Numerals.{add-one}
 use borrow.Author.Needs.{needs}
 use Rattle.payload.proofs.table.level_most.Statement.{statement}
 use Rattle.payload.proofs.table.level_most.Tie as tie
-use Rattle.payload.proofs.table.level_most.Reads as reads
-use Rattle.payload.proofs.table.level_most.Lts as lts
 
 add-result : tie.Need-add-result
 add-result c = search needs

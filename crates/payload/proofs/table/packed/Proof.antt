@@ -5,11 +5,6 @@ use Rattle.payload.proofs.CellLaws.{bit-small}
 use borrow.Author.Needs.{needs}
 use Rattle.payload.proofs.table.packed.Statement.{statement}
 use Rattle.payload.proofs.table.packed.Tie as tie
-use Rattle.payload.proofs.table.packed.Reads as reads
-use Rattle.payload.proofs.table.packed.Lts as lts
-use Rattle.payload.proofs.table.bit_of.Reads as bit-of-reads
-use Rattle.payload.proofs.table.wide.Reads as wide-reads
-use Rattle.payload.proofs.table.wide16.Reads as wide16-reads
 
 wide16-requires : tie.Need-wide16-requires
 wide16-requires c κs = search needs

@@ -3,8 +3,6 @@
 use borrow.Author.Needs.{needs}
 use Rattle.payload.proofs.table.rises.Statement.{statement}
 use Rattle.payload.proofs.table.rises.Tie as tie
-use Rattle.payload.proofs.table.rises.Reads as reads
-use Rattle.payload.proofs.table.rises.Lts as lts
 
 returns : tie.Need-returns
 returns c = rw (c .if1 .taken)

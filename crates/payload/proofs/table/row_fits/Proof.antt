@@ -1,14 +1,11 @@
 -- `row_fits` meets its contract: a row that fails a test breaks a rule.
 -- Assumes nothing.
 use native.Mathlib.Omega.{arith}
-use mathlib.Core.Path.{_≡_, refl, sym, ap, _∙_}
+use mathlib.Core.Path.{_∙_}
 use Rattle.payload.proofs.RowLaws.{row-breaks, row-elem}
 use borrow.Author.Needs.{needs}
 use Rattle.payload.proofs.table.row_fits.Statement.{statement}
 use Rattle.payload.proofs.table.row_fits.Tie as tie
-use Rattle.payload.proofs.table.row_fits.Reads as reads
-use Rattle.payload.proofs.table.row_fits.Lts as lts
-use Rattle.payload.proofs.table.elem_fits.Reads as elem-fits-reads
 
 returns : tie.Need-returns
 returns c = row-breaks _ _ (λ k h. omega (arith, k .level-least, c .if1 .taken))

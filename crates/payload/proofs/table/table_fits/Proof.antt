@@ -3,9 +3,6 @@
 use mathlib.Core.Path.{refl}
 use Rattle.payload.proofs.table.table_fits.Statement.{statement}
 use Rattle.payload.proofs.table.table_fits.Tie as tie
-use Rattle.payload.proofs.table.table_fits.Reads as reads
-use Rattle.payload.proofs.table.table_fits.Lts as lts
-use Rattle.payload.proofs.table.checked.Reads as checked-reads
 
 checked-requires : tie.Need-checked-requires
 checked-requires c κs = refl

@@ -3,8 +3,6 @@
 use borrow.Author.Tests.{eq-eqb, ne-eqb}
 use Rattle.payload.proofs.table.width_fits.Statement.{statement}
 use Rattle.payload.proofs.table.width_fits.Tie as tie
-use Rattle.payload.proofs.table.width_fits.Reads as reads
-use Rattle.payload.proofs.table.width_fits.Lts as lts
 
 returns : tie.Need-returns
 returns c = simp (eq-eqb _ _ (c .if1 .taken))
