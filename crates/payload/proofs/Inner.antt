@@ -49,6 +49,7 @@ use Rattle.payload.specs.Reading.{
 }
 use Rattle.payload.specs.Tree.{memberBytes}
 use Rattle.payload.specs.Formed.{rowFor, contentAt, Framed}
+use Rattle.payload.specs.Bounds.{Entered}
 use Rattle.payload.specs.Moved.{moveRow, AbsentAlike, Shifted, both-kept, both-set, Alike, alike-refused, alike-walked}
 use Rattle.payload.proofs.Walk.{walk-refuse, walk-finish, walk-skip, walk-leaf, walk-in, walk-out}
 use Rattle.payload.proofs.Frame.{body-says, step-member, StepIs, is-enter, step-is}
@@ -67,15 +68,6 @@ pub step-inner : (width : ℕ) (types : List TypeRow) (l first place tag k : ℕ
 step-inner width types l first place tag k c rows fr e w ab s y =
     step-member width types l first place tag c y rows fr
     ∙ rw e (met-struct types first (wireOf tag) place (contentAt width tag place) c (contentAt width tag place + length c) y rows k w ab s)
-
--- A struct that is entered: its content is a part of the level's bytes, and with other bytes behind it the same content is entered.
-pub record Entered (width : ℕ) (types : List TypeRow) (l first place : ℕ) (bytes : List ℕ) (rows : List Row) (i p : ℕ) (c : List ℕ) (next : ℕ)
-    (y : List ℕ) : Type 0 where
-  pub head : List ℕ
-  pub bytes-are : bytes ≡ head ++ (c ++ y)
-  pub content-at : p ≡ place + length head
-  pub next-at : next ≡ p + length c
-  pub others : (y2 : List ℕ) → stepOf width types l first place (head ++ (c ++ y2)) rows ≡ enter i p c next y2
 
 module _ (width : ℕ) (types : List TypeRow) (l first place : ℕ) (bytes : List ℕ) (rows : List Row) where
   entered-by : {i p : ℕ} {c : List ℕ} {next : ℕ} {y : List ℕ} → StepIs width types l first place bytes rows (enter i p c next y)

@@ -25,3 +25,4 @@ mod Accepted
 mod Bounds
 mod Refusals
 mod Inner
+pub mod Promises

@@ -9,3 +9,4 @@ pub mod Bounds
 pub mod Outcome
 pub mod Moved
 pub mod Cases
+pub mod Promises

@@ -5,3 +5,4 @@ pub mod TagLaws
 pub mod KindLaws
 pub mod TextLaws
 pub mod VerdictLaws
+pub mod Promises

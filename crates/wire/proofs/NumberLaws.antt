@@ -30,7 +30,7 @@ use lib.Pow.{pow-add, pow-pos, mod-pow-add, mod-mod-pow, field, not-mod}
 use lib.Seq.{slice, sets, set-comm, take-suc, drop-append-le, length-take-le, slice-empty, length-slice, getD-drop}
 use borrow.Author.Tests.{lt-ltb, le-ltb, ltb-true, ltb-false}
 use Rattle.wire.specs.Choose.{pick}
-use Rattle.wire.specs.Number.{AreBytes, big, numberOf, numberBytes, half, signedOf, twosOf}
+use Rattle.wire.specs.Number.{AreBytes, big, numberOf, numberBytes, half, signedOf, twosOf, Within, up, down}
 
 -- ---- lists of bytes
 
@@ -141,11 +141,6 @@ bytes-back (x ∷ xs) h =
     rw (first, rest, bytes-back xs (λ i. h (suc i)))
 
 -- ---- signed numbers
-
--- z is a signed number of w bytes
-pub data Within (w : ℕ) : ℤ → Type 0 where
-  up : {n : ℕ} → n < half w → Within w (pos n)
-  down : {n : ℕ} → n < half w → Within w (negsuc n)
 
 module _ (w : ℕ) (some : 0 < w) where
   pub half-twice : half w + half w ≡ 256 ^ w

@@ -13,7 +13,7 @@ use lib.Dec.{leb, ltb, eqb}
 use borrow.Author.Tests.{eq-eqb, ne-eqb, lt-ltb, le-ltb, le-leb, eqb-true, eqb-false, ltb-true, ltb-false, leb-true}
 use Rattle.wire.proofs.ChooseLaws.{and-left, and-right, and-false}
 use Rattle.wire.specs.Choose.{pick, and}
-use Rattle.wire.specs.Text.{following, follows, textFrom, textFits, stringBytes, stringFits}
+use Rattle.wire.specs.Text.{following, follows, textFrom, textFits, In, Text, none, alone, two, three, four, stringBytes, textOf, stringFits}
 
 -- a byte that is not zero stands alone exactly below 0x80
 pub plain-is : (x : ℕ) → (x ≡ 0 → ⊥) → ltb x 0x80 ≡ eqb (following x) 0
@@ -137,18 +137,6 @@ module _ (p : List ℕ) (from end : ℕ) (h : from ≤ end) (in-p : end ≤ leng
       go false e = refl
 
 -- ---- text as a grammar
-
--- x is one of lo to hi
-abbrev pub In : ℕ → ℕ → ℕ → Type 0
-In lo hi x = (lo ≤ x) × (x ≤ hi)
-
-pub data Text : List ℕ → Type 0 where
-  none : Text []
-  alone : {x : ℕ} {xs : List ℕ} → In 0x01 0x7F x → Text xs → Text (x ∷ xs)
-  two : {x a : ℕ} {xs : List ℕ} → In 0xC2 0xDF x → In 0x80 0xBF a → Text xs → Text (x ∷ a ∷ xs)
-  three : {x a b : ℕ} {xs : List ℕ} → In 0xE0 0xEF x → In 0x80 0xBF a → In 0x80 0xBF b → Text xs → Text (x ∷ a ∷ b ∷ xs)
-  four : {x a b c : ℕ} {xs : List ℕ} → In 0xF0 0xF4 x → In 0x80 0xBF a → In 0x80 0xBF b → In 0x80 0xBF c → Text xs
-      → Text (x ∷ a ∷ b ∷ c ∷ xs)
 
 follows-in : (x : ℕ) → In 0x80 0xBF x → follows x ≡ true
 unfolding follows
@@ -300,11 +288,9 @@ string-is text =
     rw (le-leb 4 _ few, last, inner, getD-append-seam text 0 [] 0, take-append-seam text (0 ∷ []))
 
 -- the text of a string's content
-unfoldable pub textOf : List ℕ → List ℕ
-textOf c = take (length c - 4) (drop 3 c)
 
 pub string-fits : (c : List ℕ) → stringFits c ≡ true → (c ≡ stringBytes (textOf c)) × (textFits (textOf c) ≡ true)
-unfolding stringFits stringBytes textOf
+unfolding stringFits stringBytes
 string-fits c e = go c (leb-true 4 (length c) (and-left _ _ e)) (and-right (leb 4 (length c)) _ e)
   where
     go : (c : List ℕ) → 4 ≤ length c

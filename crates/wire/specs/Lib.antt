@@ -4,3 +4,4 @@ pub mod Tag
 pub mod Kind
 pub mod Text
 pub mod Verdict
+pub mod Promises

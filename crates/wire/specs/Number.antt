@@ -40,3 +40,8 @@ signedOf w v = signedBy (half w) v
 unfoldable pub twosOf : ℕ → ℤ → ℕ
 twosOf w (pos n) = n
 twosOf w (negsuc n) = half w + half w - 1 - n
+
+-- a signed number is one of w bytes
+pub data Within (w : ℕ) : ℤ → Type 0 where
+  up : {n : ℕ} → n < half w → Within w (pos n)
+  down : {n : ℕ} → n < half w → Within w (negsuc n)

@@ -1,0 +1,52 @@
+-- The promises of specs/Promises.antt, each by the law that shows it.
+-- Assumes nothing.
+use mathlib.Core.Path.{sym, _∙_}
+use Rattle.payload.specs.Promises.{
+  TableIs,
+  TableDecided,
+  RowUnique,
+  RowFound,
+  OneReading,
+  AcceptedExactly,
+  OneTree,
+  RefusalClears,
+  RowsSet,
+  PlacesIn,
+  NothingPast,
+  InnerEnds,
+}
+use Rattle.payload.proofs.TableLaws as table
+use Rattle.payload.proofs.Accepted.{accept-law}
+use Rattle.payload.proofs.Unique.{tree-unique}
+use Rattle.payload.proofs.Refusals.{reading-refused, reading-filled, reading-place, reading-inside, reading-shown}
+use Rattle.payload.proofs.Inner.{entered}
+
+pub table-decided : TableDecided
+table-decided t all = record { fits-keeps = table.fits-keeps t all; keeps-fits = table.keeps-fits t all }
+
+pub row-unique : RowUnique
+row-unique types u l first x = table.row-unique types l first x u
+
+pub row-found : RowFound
+row-found types u l first x = table.row-found types l first x u
+
+pub one-reading : OneReading
+one-reading p t room r s d e = d ∙ sym e
+
+pub accepted-exactly : AcceptedExactly
+accepted-exactly = accept-law
+
+pub one-tree : OneTree
+one-tree width types m m2 = tree-unique width types 1 0 m m2
+
+pub refusal-clears : RefusalClears
+refusal-clears = reading-refused
+
+pub rows-set : RowsSet
+rows-set = reading-filled
+
+pub nothing-past : NothingPast
+nothing-past p t room = record { only-walk = reading-place p t room; place-in = reading-inside p t room; runs-in = reading-shown p t room }
+
+pub inner-ends : InnerEnds
+inner-ends = entered

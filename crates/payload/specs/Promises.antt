@@ -1,0 +1,73 @@
+-- What this crate promises, a statement under each sentence. The proofs cite them in proofs/Promises.antt, in the same order.
+use mathlib.Core.Path.{_≡_}
+use Prim.Native.Nat.{ℕ, _+_, _≤_}
+use mathlib.Core.Bool.{true}
+use mathlib.Core.Option.{some}
+use mathlib.Core.List.{List}
+use lib.ListN.{length, drop, getD, replicate}
+use Rattle.wire.specs.Choose.{pick}
+use Rattle.wire.specs.declared.verdict.Verdict.the-variants.{Accepted}
+use Rattle.payload.specs.declared.table.TypeRow.{TypeRow}
+use Rattle.payload.specs.declared.table.Table.{Table}
+use Rattle.payload.specs.declared.row.Row.{Row}
+use Rattle.payload.specs.declared.read.Reading.{Reading}
+use Rattle.payload.specs.Table.{find, identsDiffer, typeRows, tableFits, TableRules, RowOf}
+use Rattle.payload.specs.Row.{absentRow}
+use Rattle.payload.specs.Reading.{enter, stepOf, readingOf}
+use Rattle.payload.specs.Tree.{Members, bytesOf}
+use Rattle.payload.specs.Formed.{Formed}
+use Rattle.payload.specs.Bounds.{ByWalk, RunIn, Entered}
+use Rattle.payload.specs.Outcome.{changesNone, AcceptLaw}
+
+-- P1. A table passes the test exactly when it keeps the rules.
+pub record TableIs (t : Table) : Type 0 where
+  pub fits-keeps : tableFits t ≡ true → TableRules t
+  pub keeps-fits : TableRules t → tableFits t ≡ true
+
+abbrev pub TableDecided : Type 0
+TableDecided = (t : Table) → length (t .rows) ≡ 64 → TableIs t
+
+-- P2. In a valid table the row of a Data ID at a level is unique, and is the one that is found.
+abbrev pub RowUnique : Type 0
+RowUnique = (types : List TypeRow) → identsDiffer types ≡ true → (l first x i j : ℕ) → RowOf types l first x i → RowOf types l first x j → i ≡ j
+
+abbrev pub RowFound : Type 0
+RowFound = (types : List TypeRow) → identsDiffer types ≡ true → (l first x k : ℕ) → RowOf types l first x (first + k)
+    → find l x (drop first types) ≡ some k
+
+-- P3. Any two readings of a payload under a table are equal, with any number of lent rows and whatever they held.
+abbrev pub OneReading : Type 0
+OneReading = (p : List ℕ) (t : Table) (room : ℕ) (r s : Reading) → r ≡ readingOf p t room → s ≡ readingOf p t room → r ≡ s
+
+-- P4. A payload is accepted exactly when it is the bytes of a well-formed tree of members; rows and count are the tree's.
+abbrev pub AcceptedExactly : Type 0
+AcceptedExactly = (p : List ℕ) (t : Table) (room : ℕ) → AcceptLaw p t room
+
+-- P5. Bytes have one tree.
+abbrev pub OneTree : Type 0
+OneTree = (width : ℕ) (types : List TypeRow) (m m2 : Members) → Formed width types 1 0 m → Formed width types 1 0 m2
+    → bytesOf width m ≡ bytesOf width m2 → m ≡ m2
+
+-- P6. A refusal counts nothing, and leaves absent rows with all fields 0.
+abbrev pub RefusalClears : Type 0
+RefusalClears = (p : List ℕ) (t : Table) (room : ℕ) → (readingOf p t room .verdict ≡ Accepted → ⊥)
+    → (readingOf p t room .skipped ≡ 0) × (readingOf p t room .rows ≡ replicate 64 absentRow)
+
+-- P7. As many lent rows are set as the table has, and none after 1 and 2.
+abbrev pub RowsSet : Type 0
+RowsSet = (p : List ℕ) (t : Table) (room : ℕ) → readingOf p t room .filled ≡ pick (changesNone (readingOf p t room .verdict)) 0 (t .count)
+
+-- P8. Only the verdicts 20 to 27 have a place other than 0, and no place and no run of bytes lies past the payload's end.
+pub record PlacesIn (p : List ℕ) (t : Table) (room : ℕ) : Type 0 where
+  pub only-walk : (ByWalk (readingOf p t room .verdict) → ⊥) → readingOf p t room .place ≡ 0
+  pub place-in : readingOf p t room .place ≤ length p
+  pub runs-in : (j : ℕ) → RunIn 0 (length p) (getD (readingOf p t room .rows) j absentRow)
+
+abbrev pub NothingPast : Type 0
+NothingPast = (p : List ℕ) (t : Table) (room : ℕ) → PlacesIn p t room
+
+-- P9. A struct's content is what its length says: what stands behind it in the level changes neither its row nor its bytes.
+abbrev pub InnerEnds : Type 0
+InnerEnds = (width : ℕ) (types : List TypeRow) (l first place : ℕ) (bytes : List ℕ) (rows : List Row) (i p : ℕ) (c : List ℕ) (next : ℕ) (behind : List ℕ)
+    → stepOf width types l first place bytes rows ≡ enter i p c next behind
+    → Entered width types l first place bytes rows i p c next behind
