@@ -25,4 +25,13 @@ mod Accepted
 mod Bounds
 mod Refusals
 mod Inner
+mod Writing
+mod PutLaws
+mod Judgings
+mod Built
+mod OwnTable
+mod Again
+mod Outcomes
+mod Demand2
+mod Demand2Cases
 pub mod Promises

@@ -46,10 +46,10 @@ refuses p v place = record { bytes = p; answer = cleared 5 v place }
 abbrev minus125 : Row
 minus125 = plain (Signed (negsuc 124))
 
-abbrev valuesA : List Row
+abbrev pub valuesA : List Row
 valuesA = absentRow ∷ minus125 ∷ plain Members ∷ plain (Unsigned 2900) ∷ absentRow ∷ []
 
-abbrev valuesC : List Row
+abbrev pub valuesC : List Row
 valuesC = absentRow ∷ minus125 ∷ absentRow ∷ absentRow ∷ absentRow ∷ []
 
 unfoldable pub cases : List Case

@@ -8,5 +8,13 @@ pub mod Formed
 pub mod Bounds
 pub mod Outcome
 pub mod Moved
+pub mod Judging
+pub mod Writing
+pub mod Settled
+pub mod Parts
+pub mod Columns
+pub mod Sizes
 pub mod Cases
+pub mod WriteCases
+pub mod Demand2
 pub mod Promises
