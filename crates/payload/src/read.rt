@@ -445,7 +445,7 @@ fn kept_rows(cells: &[u64; 64], words: &[u64; 64], marks: &[usize; 64], count: u
 }
 
 // A refusal: no member counts, and the rows are absent, `filled` of them set.
-fn refusal(why: Verdict, place: usize, filled: usize) -> Reading
+pub fn refusal(why: Verdict, place: usize, filled: usize) -> Reading
     ensures { λ r. ⌜ r ≡ cleared filled why place ⌝ }
 {
     Reading {
