@@ -14,7 +14,13 @@ use Rattle.payload.specs.Promises.{
   PlacesIn,
   NothingPast,
   InnerEnds,
+  OneWriting,
 }
+use Rattle.payload.specs.Settled.{WriteSettled}
+use Rattle.payload.specs.Demand2.{Demand2Holds, Demand2Answered, CasesWritten, CasesBack}
+use Rattle.payload.proofs.Writing.WrittenLaws as settled
+use Rattle.payload.proofs.Demand2 as demand
+use Rattle.payload.proofs.Demand2Cases as cases
 use Rattle.payload.proofs.TableLaws as table
 use Rattle.payload.proofs.Accepted.{accept-law}
 use Rattle.payload.proofs.Unique.{tree-unique}
@@ -50,3 +56,21 @@ nothing-past p t room = record { only-walk = reading-place p t room; place-in = 
 
 pub inner-ends : InnerEnds
 inner-ends = entered
+
+pub one-writing : OneWriting
+one-writing rows room t buf old r s out out2 a b c d = (a ∙ sym c, b ∙ sym d)
+
+pub write-settled : WriteSettled
+write-settled = settled.write-settled
+
+pub demand-2 : Demand2Holds
+demand-2 = demand.demand-2
+
+pub demand-2-answered : Demand2Answered
+demand-2-answered = demand.demand-2-answered
+
+pub cases-written : CasesWritten
+cases-written = cases.cases-written
+
+pub cases-back : CasesBack
+cases-back = cases.cases-back

@@ -10,4 +10,3 @@ pub mod StoreLaws
 pub mod OutcomeLaws
 pub mod WriteLaws
 pub mod WrittenLaws
-pub mod WriteCases

@@ -15,6 +15,5 @@ pub mod Parts
 pub mod Columns
 pub mod Sizes
 pub mod Cases
-pub mod WriteCases
 pub mod Demand2
 pub mod Promises

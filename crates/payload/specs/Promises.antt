@@ -11,9 +11,11 @@ use Rattle.payload.specs.declared.table.TypeRow.{TypeRow}
 use Rattle.payload.specs.declared.table.Table.{Table}
 use Rattle.payload.specs.declared.row.Row.{Row}
 use Rattle.payload.specs.declared.read.Reading.{Reading}
+use Rattle.payload.specs.declared.write.Written.{Written}
 use Rattle.payload.specs.Table.{find, identsDiffer, typeRows, tableFits, TableRules, RowOf}
 use Rattle.payload.specs.Row.{absentRow}
 use Rattle.payload.specs.Reading.{enter, stepOf, readingOf}
+use Rattle.payload.specs.Writing.{writingOf, outputOf}
 use Rattle.payload.specs.Tree.{Members, bytesOf}
 use Rattle.payload.specs.Formed.{Formed}
 use Rattle.payload.specs.Bounds.{ByWalk, RunIn, Entered}
@@ -71,3 +73,18 @@ abbrev pub InnerEnds : Type 0
 InnerEnds = (width : ℕ) (types : List TypeRow) (l first place : ℕ) (bytes : List ℕ) (rows : List Row) (i p : ℕ) (c : List ℕ) (next : ℕ) (behind : List ℕ)
     → stepOf width types l first place bytes rows ≡ enter i p c next behind
     → Entered width types l first place bytes rows i p c next behind
+
+-- P10. Any two writings of the same rows under a table, with the same content buffer and output, are equal: the answer and every byte.
+abbrev pub OneWriting : Type 0
+OneWriting = (rows : List Row) (room : ℕ) (t : Table) (buf old : List ℕ) (r s : Written) (out out2 : List ℕ)
+    → r ≡ writingOf rows room t buf (length old) → out ≡ outputOf rows room t buf old
+    → s ≡ writingOf rows room t buf (length old) → out2 ≡ outputOf rows room t buf old
+    → (r ≡ s) × (out ≡ out2)
+
+-- P11. A writing is accepted exactly when every test is met; the output is then the bytes of the tree of present rows, and behind them the old
+-- bytes; a refused one changes nothing: WriteSettled, in specs/Settled.antt.
+
+-- P12. Values written are read back the same, byte runs by their bytes; what our writer made, read and written again, gives the same bytes;
+-- what it made is the bytes of the tree of present rows: Demand2Holds and, by the writer's answer, Demand2Answered, in specs/Demand2.antt.
+
+-- P13. Not empty: the writer accepts the rows of cases a, c and m and gives their bytes: CasesWritten and CasesBack, in specs/Demand2.antt.
