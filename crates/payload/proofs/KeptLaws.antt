@@ -169,7 +169,7 @@ module _ (types : List TypeRow) (words marks : List ℕ) where
         append-snoc (take i (kept types words marks)) _ (replicate (64 - suc i) absentRow),
       )
 
-  pub first-all : (i : ℕ) → length types ≤ i → firstRows i ≡ full (kept types words marks)
+  first-all : (i : ℕ) → length types ≤ i → firstRows i ≡ full (kept types words marks)
   first-all i h = ap full (take-all i (kept types words marks) (omega (arith, length-kept words marks types)))
 
 -- one turn of the loop that shows the rows
@@ -185,6 +185,11 @@ kept-more cells words marks n i h l rows er k ek row ew =
       add-one i,
       first-more (tableIn n cells) words marks i (omega arith) (omega arith),
     )
+
+-- the loop's end
+pub kept-all : (cells words marks : List ℕ) (n i : ℕ) → n ≤ i → (rows : List Row) → rows ≡ firstRows (tableIn n cells) words marks i
+    → rows ≡ full (kept (tableIn n cells) words marks)
+kept-all cells words marks n i h rows e = e ∙ first-all (tableIn n cells) words marks i (omega (arith, table-length n cells))
 
 -- the low bytes of a word are below what they hold
 pub low-below : (k word : ℕ) → word % 256 ^ sizeOf k < 256 ^ sizeOf k
