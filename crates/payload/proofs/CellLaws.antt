@@ -8,14 +8,14 @@ use mathlib.Core.Option.{Option, none, some}
 use mathlib.Core.List.{List, [], _∷_}
 use lib.ListN.{length, drop, getD}
 use lib.Seq.{drop-nil, getD-drop}
-use lib.Dec.{eqb}
-use borrow.Author.Tests.{lt-ltb, le-ltb, eq-eqb, eqb-true}
+use lib.Dec.{ltb, eqb}
+use borrow.Author.Tests.{lt-ltb, le-ltb, eq-eqb, eqb-true, eqb-false, ltb-true, ltb-false}
 use Rattle.wire.specs.Choose.{pick, and}
 use Rattle.payload.specs.declared.table.TypeRow.{TypeRow}
 use Rattle.payload.specs.declared.table.Found.{Found}
 use Rattle.payload.specs.declared.table.Found.the-variants.{At, Nothing}
 use Rattle.payload.specs.Table.{later, find, isNone, identsDiffer}
-use Rattle.payload.specs.Cells.{bitOf, cellOf, identIn, levelIn, rowIn, rowsIn, tableIn, FineRow, foundAt, missed}
+use Rattle.payload.specs.Cells.{bitOf, cellOf, identIn, levelIn, rowIn, rowsIn, tableIn, FineRow, foundAt, searchAt, missed, Within, Stops}
 
 -- ---- the cell of a row
 
@@ -156,3 +156,67 @@ module _ (cells : List ℕ) (n i : ℕ) where
   pub differ-end : n ≤ i → identsDiffer (drop i (tableIn n cells)) ≡ true
   unfolding identsDiffer
   differ-end h = rw (rows-end h)
+
+-- ---- a search of a level's rows
+
+-- one row more is not above the level
+pub deep-more : (cells : List ℕ) (l first i : ℕ) → ((j : ℕ) → first ≤ j → j < i → l ≤ levelIn (getD cells j 0)) → l ≤ levelIn (getD cells i 0)
+    → (j : ℕ) → first ≤ j → j < i + 1 → l ≤ levelIn (getD cells j 0)
+deep-more cells l first i deep here j a b = go (ltb j i) refl
+  where
+    go : (t : Bool) → ltb j i ≡ t → l ≤ levelIn (getD cells j 0)
+    go true e = deep j a (ltb-true j i e)
+    go false e = let z : j ≡ i = omega (arith, ltb-false j i e) in rw z here
+
+-- one row after another does not have the key
+module _ (cells : List ℕ) (n l x key at : ℕ) (small : l < 16) (e : key ≡ x * 16 + l) (h : at + 4 ≤ n)
+    (deep : (i : ℕ) → at ≤ i → i < at + 4 → l ≤ levelIn (getD cells i 0)) where
+  pub key-first : (getD cells at 0 / 512 ≡ key → ⊥) → searchAt n cells l x at ≡ searchAt n cells l x (at + 1)
+  key-first ne =
+      let z : suc at ≡ at + 1 = omega arith in
+      find-next cells n at l x (omega arith) small (λ d. ne (d ∙ sym e)) (deep at (omega arith) (omega arith)) ∙ ap (searchAt n cells l x) z
+
+  pub key-next : (k : ℕ) → k < 4 → (getD cells (at + k) 0 / 512 ≡ key → ⊥) → searchAt n cells l x (at + k) ≡ searchAt n cells l x (at + suc k)
+  key-next k few ne =
+      let z : suc (at + k) ≡ at + suc k = omega arith in
+      find-next cells n (at + k) l x (omega arith) small (λ d. ne (d ∙ sym e)) (deep (at + k) (omega arith) (omega arith)) ∙ ap (searchAt n cells l x) z
+
+-- the rows of a level are enough
+module _ (cells : List ℕ) (stop count l x : ℕ) (small : l < 16) (to : stop ≤ count) (shut : stop < count → levelIn (getD cells stop 0) < l) where
+  at-stop : searchAt stop cells l x stop ≡ searchAt count cells l x stop
+  at-stop = find-end cells stop stop l x (omega arith) ∙ sym (go (ltb stop count) refl)
+    where
+      go : (b : Bool) → ltb stop count ≡ b → searchAt count cells l x stop ≡ Nothing
+      go true e = find-above cells count stop l x (ltb-true stop count e) small (shut (ltb-true stop count e))
+      go false e = find-end cells count stop l x (ltb-false stop count e)
+
+  rows-enough : (k first : ℕ) → first + k ≡ stop → ((i : ℕ) → first ≤ i → i < stop → l ≤ levelIn (getD cells i 0))
+      → searchAt stop cells l x first ≡ searchAt count cells l x first
+  rows-enough zero first e deep = let z : first ≡ stop = omega arith in rw z at-stop
+  rows-enough (suc k) first e deep =
+      go (eqb (getD cells first 0 / 512) (x * 16 + l)) refl (rows-enough k (suc first) (omega arith) (λ i a b. deep i (omega arith) b))
+    where
+      go : (b : Bool) → eqb (getD cells first 0 / 512) (x * 16 + l) ≡ b → searchAt stop cells l x (suc first) ≡ searchAt count cells l x (suc first)
+          → searchAt stop cells l x first ≡ searchAt count cells l x first
+      go true d later =
+          let hit = eqb-true (getD cells first 0 / 512) (x * 16 + l) d in
+          find-this cells stop first l x (omega arith) small hit ∙ sym (find-this cells count first l x (omega arith) small hit)
+      go false d later =
+          let ne = eqb-false (getD cells first 0 / 512) (x * 16 + l) d in
+          let lev = deep first (omega arith) (omega arith) in
+          find-next cells stop first l x (omega arith) small ne lev
+          ∙ later
+          ∙ sym (find-next cells count first l x (omega arith) small ne lev)
+
+module _ (cells : List ℕ) (first stop count l x : ℕ) (small : l < 16) (s : Stops cells first stop count l) where
+  pub level-search : (f : Found) → f ≡ searchAt stop cells l x first → f ≡ searchAt count cells l x first
+  level-search f e = e ∙ rows-enough cells stop count l x small (s .to) (s .shut) (stop - first) first (omega (arith, s .from)) (s .deep)
+
+  pub level-within : (f : Found) → Within cells first stop l f → Within cells first count l f
+  level-within (At i) w = (w .0, omega (arith, w .1, s .to), w .2)
+  level-within Nothing w = tt
+
+-- what is found from a later row on
+pub within-later : (cells : List ℕ) (first i stop l : ℕ) → first ≤ i → (f : Found) → Within cells i stop l f → Within cells first stop l f
+within-later cells first i stop l h (At k) w = (omega (arith, w .0), w .1, w .2)
+within-later cells first i stop l h Nothing w = tt

@@ -186,6 +186,11 @@ kept-more cells words marks n i h l rows er k ek row ew =
       first-more (tableIn n cells) words marks i (omega arith) (omega arith),
     )
 
+-- the loop's end
+pub kept-all : (cells words marks : List ℕ) (n i : ℕ) → n ≤ i → (rows : List Row) → rows ≡ firstRows (tableIn n cells) words marks i
+    → rows ≡ full (kept (tableIn n cells) words marks)
+kept-all cells words marks n i h rows e = e ∙ first-all (tableIn n cells) words marks i (omega (arith, table-length n cells))
+
 -- the low bytes of a word are below what they hold
 pub low-below : (k word : ℕ) → word % 256 ^ sizeOf k < 256 ^ sizeOf k
 low-below k word = mod-lt word (pow-le-pow-right {n = 256} (omega arith) {i = 0} {j = sizeOf k} (omega arith))

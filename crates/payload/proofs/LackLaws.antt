@@ -8,7 +8,7 @@ use mathlib.Core.List.{List, [], _∷_}
 use lib.ListN.{length, drop, getD}
 use lib.Seq.{drop-cons}
 use lib.Dec.{ltb, eqb}
-use borrow.Author.Tests.{lt-ltb, le-ltb, eq-eqb, eqb-true}
+use borrow.Author.Tests.{lt-ltb, le-ltb, eq-eqb, eqb-true, ltb-true, ltb-false}
 use Rattle.wire.specs.Choose.{and, or}
 use Rattle.payload.specs.declared.table.TypeRow.{TypeRow}
 use Rattle.payload.specs.declared.row.Row.{Row}
@@ -25,7 +25,7 @@ module _ (cells marks : List ℕ) (n l : ℕ) (words : List ℕ) where
   lacksAt i = lacks l (drop i (tableIn n cells)) (drop i (kept (tableIn n cells) words marks))
 
   module _ (i : ℕ) where
-    pub lacks-end : n ≤ i → lacksAt i ≡ false
+    lacks-end : n ≤ i → lacksAt i ≡ false
     unfolding lacks
     lacks-end h = rw (rows-end cells n i h)
 
@@ -42,7 +42,7 @@ module _ (cells marks : List ℕ) (n l : ℕ) (words : List ℕ) where
           (kept-at words marks (tableIn n cells) i (omega arith)
           ∙ ap (λ (t : TypeRow). keptRow (t .kind) (getD words i 0) (getD marks i 0)) (row-at cells n i _ h))
 
-      pub lacks-above : levelIn cell < l → lacksAt i ≡ false
+      lacks-above : levelIn cell < l → lacksAt i ≡ false
       unfolding lacks
       lacks-above e = rw (rows-here cells n i h, row-here, lt-ltb (levelIn cell) l e)
 
@@ -76,3 +76,11 @@ module _ (cells marks : List ℕ) (n l : ℕ) (words : List ℕ) where
           go true true false ea eb ed = refl
           go true false d ea eb ed = refl
           go false b d ea eb ed = refl
+
+  -- where the level's rows stop
+  pub lacks-stop : (stop : ℕ) → (stop < n → levelIn (getD cells stop 0) < l) → lacksAt stop ≡ false
+  lacks-stop stop shut = go (ltb stop n) refl
+    where
+      go : (b : Bool) → ltb stop n ≡ b → lacksAt stop ≡ false
+      go true e = lacks-above stop (ltb-true stop n e) (shut (ltb-true stop n e))
+      go false e = lacks-end stop (ltb-false stop n e)

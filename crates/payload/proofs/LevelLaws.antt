@@ -21,7 +21,7 @@ use Rattle.payload.specs.declared.read.Member.the-variants.{Bad, Unknown
 use Rattle.payload.specs.declared.read.Walk.{Walk}
 use Rattle.payload.specs.declared.read.Walk.the-variants.{Going, Refused}
 use Rattle.payload.specs.Table.{rowAt}
-use Rattle.payload.specs.Cells.{tableIn}
+use Rattle.payload.specs.Cells.{tableIn, Stops}
 use Rattle.payload.specs.Row.{membersRow}
 use Rattle.payload.specs.Reading.{Walked, refused, walked, Moved, stepOf, behind, memberBy, lacks, endOf, levelBy, walk}
 use Rattle.payload.specs.Walking.{
@@ -195,19 +195,19 @@ module _ (p cells words marks : List ℕ) (c : Cursor) (f : Frame) where
         in-level : MemberIn cells (c .at + 2) f (Struct s)
         in-level = subst (MemberIn cells (c .at + 2) f) e (at .within)
 
-        pub inner-low : (f .level ≤ 4) × (s .row < 64)
-        inner-low = (in-level .2, omega (arith, in-level .1, ready .steady .fine .few))
+        pub inner-low : (f .level ≤ 4) × (s .row < f .count) × (f .count ≤ 64)
+        inner-low = (in-level .2, in-level .1, ready .steady .fine .few)
 
         pub inner-less : (s .end - s .from) * 2 + 1 < (f .end - c .at) * 2
         inner-less = let o = in-level .0 in omega (arith, o .tagged, o .ordered, o .ended)
 
-        pub inner-ready : (start : Cursor) → start ≡ record { at = s .from; skipped = c .skipped } → (g : Frame) → g ≡ innerOf f s
-            → Ready p cells words2 marks2 start g
-        inner-ready start ds g dg =
+        pub inner-ready : (start : Cursor) → start ≡ record { at = s .from; skipped = c .skipped } → (g : Frame) → g ≡ innerOf f s (g .stop)
+            → Stops cells (s .row + 1) (g .stop) (f .count) (f .level + 1) → Ready p cells words2 marks2 start g
+        inner-ready start ds g dg stops =
             let o = in-level .0 in
             rw (ds, dg) (record {
               steady = record
-                  { fine = ready .steady .fine; low = omega (arith, in-level .2); narrow = ready .steady .narrow; bounded = omega (arith, o .ended, ready .steady .bounded) };
+                  { fine = ready .steady .fine; low = omega (arith, in-level .2); narrow = ready .steady .narrow; bounded = omega (arith, o .ended, ready .steady .bounded); stops = stops };
               inside = o .ordered;
               few = omega (arith, o .tagged, ready .few);
               all-words = words-all;
@@ -215,7 +215,7 @@ module _ (p cells words marks : List ℕ) (c : Cursor) (f : Frame) where
             })
 
         -- a struct's members, and what stands behind the struct
-        pub read-struct : (start : Cursor) → start ≡ record { at = s .from; skipped = c .skipped } → (g : Frame) → g ≡ innerOf f s
+        pub read-struct : (start : Cursor) → start ≡ record { at = s .from; skipped = c .skipped } → (g : Frame) → g ≡ innerOf f s (g .stop)
             → (r : Walk) (words3 marks3 : List ℕ) → LevelRead p cells words2 marks2 start g r words3 marks3 → MemberRead p cells words marks c f r words3 marks3
         unfolding memberBy behind
         read-struct start ds g dg r words3 marks3 l0 =
@@ -229,7 +229,7 @@ module _ (p cells words marks : List ℕ) (c : Cursor) (f : Frame) where
               all-marks = l .all-marks;
             }
           where
-            l : LevelRead p cells words2 marks2 (record { at = s .from; skipped = c .skipped }) (innerOf f s) r words3 marks3
+            l : LevelRead p cells words2 marks2 (record { at = s .from; skipped = c .skipped }) (innerOf f s (g .stop)) r words3 marks3
             l = rw (ds, dg) at l0
 
             members : kept types words2 marks2 ≡ set (kept types words marks) (s .row) membersRow

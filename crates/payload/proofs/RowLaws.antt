@@ -121,6 +121,7 @@ module _ (r : TypeRow) where
   fine-row k = record {
     kind-some = omega (arith, k .kind-least);
     kind-in = omega (arith, k .kind-most);
+    level-some = k .level-least;
     level-in = k .level-most;
     ident-in = omega (arith, k .ident-most);
     elem-in = few (eqb (r .kind) array) refl;

@@ -5,14 +5,14 @@ use mathlib.Core.Path.{_≡_}
 use mathlib.Core.Bool.{Bool, true, false}
 use mathlib.Core.Option.{Option, none, some}
 use mathlib.Core.List.{List, [], _∷_}
-use lib.ListN.{length, getD}
+use lib.ListN.{length, drop, getD}
 use lib.Dec.{eqb}
 use Rattle.wire.specs.Kind.{array}
 use Rattle.payload.specs.declared.table.TypeRow.{TypeRow}
 use Rattle.payload.specs.declared.table.Table.{Table}
 use Rattle.payload.specs.declared.table.Found.{Found}
 use Rattle.payload.specs.declared.table.Found.the-variants.{At, Nothing}
-use Rattle.payload.specs.Table.{typeRows, tableFits}
+use Rattle.payload.specs.Table.{find, typeRows, tableFits}
 
 abbrev pub bitOf : Bool → ℕ
 bitOf true = 1
@@ -53,6 +53,7 @@ tableIn n cells = rowsIn n 0 cells
 pub record FineRow (r : TypeRow) : Type 0 where
   pub kind-some : 0 < r .kind
   pub kind-in : r .kind < 15
+  pub level-some : 1 ≤ r .level
   pub level-in : r .level ≤ 4
   pub ident-in : r .ident < 4096
   pub elem-in : r .elem < 12
@@ -69,6 +70,10 @@ abbrev pub foundAt : ℕ → Option ℕ → Found
 foundAt first none = Nothing
 foundAt first (some k) = At (first + k)
 
+-- the search for the row of a Data ID at a level, from row i on, among the first n
+abbrev pub searchAt : ℕ → List ℕ → ℕ → ℕ → ℕ → Found
+searchAt n cells l x i = foundAt i (find l x (drop i (tableIn n cells)))
+
 abbrev pub missed : Found → Bool
 missed (At i) = false
 missed Nothing = true
@@ -77,6 +82,20 @@ missed Nothing = true
 abbrev pub Within : List ℕ → ℕ → ℕ → ℕ → Found → Type 0
 Within cells first count l (At i) = (first ≤ i) × (i < count) × (levelIn (getD cells i 0) ≡ l)
 Within cells first count l Nothing = Unit {0}
+
+-- From `first` to `stop` no row is above the level; there the table ends, or a row above the level stands.
+pub record Stops (cells : List ℕ) (first stop count l : ℕ) : Type 0 where
+  pub from : first ≤ stop
+  pub to : stop ≤ count
+  pub deep : (i : ℕ) → first ≤ i → i < stop → l ≤ levelIn (getD cells i 0)
+  pub shut : stop < count → levelIn (getD cells stop 0) < l
+
+-- Of the four rows at `at` the first r do not have a key, and row r has it, if r is below 4.
+pub record KeyFour (cells : List ℕ) (at key r : ℕ) : Type 0 where
+  pub few : r ≤ 4
+  pub hit : r < 4 → getD cells (at + r) 0 / 512 ≡ key
+  pub same : (n l x : ℕ) → l < 16 → key ≡ x * 16 + l → at + 4 ≤ n → ((i : ℕ) → at ≤ i → i < at + 4 → l ≤ levelIn (getD cells i 0))
+      → searchAt n cells l x at ≡ searchAt n cells l x (at + r)
 
 -- ---- the check
 

@@ -11,6 +11,8 @@ use Rattle.wire.specs.declared.verdict.Verdict.{Verdict}
 use Rattle.payload.specs.declared.table.TypeRow.{TypeRow}
 use Rattle.payload.specs.declared.row.Row.{Row}
 use Rattle.payload.specs.declared.row.Value.the-variants.{Bytes}
+use Rattle.payload.specs.declared.read.Reading.{Reading}
+use Rattle.payload.specs.declared.read.Ending.{Ending}
 use Rattle.payload.specs.declared.read.Frame.{Frame}
 use Rattle.payload.specs.declared.read.Cursor.{Cursor}
 use Rattle.payload.specs.declared.read.Span.{Span}
@@ -22,7 +24,7 @@ use Rattle.payload.specs.declared.read.Member.the-variants.{Bad, Unknown
 use Rattle.payload.specs.declared.read.Walk.{Walk}
 use Rattle.payload.specs.declared.read.Walk.the-variants.{Going, Refused}
 use Rattle.payload.specs.Table.{rowAt}
-use Rattle.payload.specs.Cells.{tableIn, FineTable}
+use Rattle.payload.specs.Cells.{tableIn, FineTable, Stops}
 use Rattle.payload.specs.Row.{plain, absentRow, membersRow, numberRow}
 use Rattle.payload.specs.Reading.{
   Body,
@@ -44,6 +46,7 @@ use Rattle.payload.specs.Reading.{
   stepOf,
   memberBy,
   walk,
+  full,
 }
 
 -- ---- the rows
@@ -123,6 +126,7 @@ pub record Steady (p cells : List ℕ) (f : Frame) : Type 0 where
   pub low : f .level ≤ 5
   pub narrow : f .width ≤ 4
   pub bounded : f .end ≤ length p
+  pub stops : Stops cells (f .first) (f .stop) (f .count) (f .level)
 
 abbrev pub MemberIn : List ℕ → ℕ → Frame → Member → Type 0
 MemberIn cells at f (Bad v place) = Unit {0}
@@ -141,9 +145,9 @@ pub record MemberAt (p cells marks : List ℕ) (at : ℕ) (f : Frame) (r : Membe
 abbrev pub spotOf : ℕ → ℕ → ℕ → Span → Spot
 spotOf i word mark c = record { row = i; word = word; mark = mark; from = c .from; end = c .end }
 
--- the level of a struct's members
-abbrev pub innerOf : Frame → Spot → Frame
-innerOf f s = record { first = s .row + 1; level = f .level + 1; end = s .end; count = f .count; width = f .width }
+-- the level of a struct's members, whose rows stop at a row
+abbrev pub innerOf : Frame → Spot → ℕ → Frame
+innerOf f s stop = record { first = s .row + 1; stop = stop; level = f .level + 1; end = s .end; count = f .count; width = f .width }
 
 -- ---- the walk
 
@@ -189,3 +193,19 @@ pub record MemberRead (p cells words marks : List ℕ) (c : Cursor) (f : Frame) 
   pub onward : Onward (suc (c .at)) (f .end) r
   pub all-words : length words2 ≡ 64
   pub all-marks : length marks2 ≡ 64
+
+-- ---- the answer
+
+-- a refusal: `filled` rows are set, none is kept
+abbrev pub stopAt : ℕ → Verdict → ℕ → Ending
+stopAt n v place = record { verdict = v; place = place; skipped = 0; filled = n; kept = 0 }
+
+-- the reading that ended so
+abbrev pub settled : List ℕ → List ℕ → List ℕ → Ending → Reading
+settled cells words marks o =
+    record { verdict = o .verdict; place = o .place; skipped = o .skipped; filled = o .filled; rows = full (kept (tableIn (o .kept) cells) words marks) }
+
+-- A reading ended, and its answer is x.
+pub record Ended (cells words marks : List ℕ) (o : Ending) (x : Reading) : Type 0 where
+  pub is : settled cells words marks o ≡ x
+  pub fine : FineTable (o .kept) cells

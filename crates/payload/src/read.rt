@@ -5,15 +5,15 @@ ghost use mathlib.Core.Path.{_≡_};
 ghost use mathlib.Core.Bool.{true};
 ghost use mathlib.Core.List.{List};
 ghost use Prim.Native.Nat.{ℕ, _+_, _-_, _%_, _^_, _≤_, _<_};
-ghost use lib.ListN.{length, getD, set, drop};
+ghost use lib.ListN.{length, getD, set, drop, replicate};
 ghost use lib.Seq.{slice};
-ghost use Rattle.wire.specs.Number.{half};
+ghost use Rattle.wire.specs.Number.{big, numberOf, half};
 ghost use Rattle.wire.specs.Kind.{sizeOf, wireFits, string, array};
-ghost use Rattle.payload.specs.Cells.{rowIn, kindIn, tableIn, FineRow, FineTable};
+ghost use Rattle.payload.specs.Cells.{rowIn, kindIn, tableIn, FineRow, FineTable, searchAt, Within, Stops};
 ghost use Rattle.payload.specs.Row.{numberRow, plain as plainRow};
 ghost use Rattle.payload.specs.Reading.{bodyOf, answerOf, walkedOf, cleared, checkedOf, readingOf, full};
 ghost use Rattle.payload.specs.Reading.{lacks as lacksOf};
-ghost use Rattle.payload.specs.Walking.{keptRow, kept, bodyIn, Inside, spotOf, innerOf, UnknownRead, ContentRead, KnownRead, Steady, MemberAt, Ready, LevelRead, MemberRead};
+ghost use Rattle.payload.specs.Walking.{keptRow, kept, bodyIn, Inside, spotOf, innerOf, UnknownRead, ContentRead, KnownRead, Steady, MemberAt, Ready, LevelRead, MemberRead, stopAt, Ended};
 use super::row::Row;
 use super::row::Value;
 use super::table;
@@ -38,9 +38,19 @@ pub struct Reading {
     pub rows: [Row; 64],
 }
 
-// A level: its first row, its number, its end; and the table's count and width.
+// How a reading ended: its verdict, place and counts, and how many rows are kept. Rows beyond are absent.
+pub struct Ending {
+    pub verdict: Verdict,
+    pub place: usize,
+    pub skipped: usize,
+    pub filled: usize,
+    pub kept: usize,
+}
+
+// A level: its first row, where its rows stop, its number, its end; and the table's count and width.
 pub struct Frame {
     pub first: usize,
+    pub stop: usize,
     pub level: u64,
     pub end: usize,
     pub count: usize,
@@ -167,6 +177,23 @@ fn array_at(cell: u64, i: usize, c: Span) -> Member
     Member::Bad(Verdict::Array, from)
 }
 
+// The number of the w bytes at a place; of 1, 2 and 4 bytes the loop is unrolled.
+fn number_at(p: &[u8], at: usize, w: usize) -> u64
+    requires { ⌜ (at + w ≤ length (now p)) × (w ≤ 8) ⌝ }
+    ensures { λ r. ⌜ (r ≡ numberOf big (slice at (at + w) (now (p .entry)))) × (r < 256 ^ w) ⌝ }
+{
+    if w == 1 {
+        return number::read_number(p, at, 1);
+    }
+    if w == 2 {
+        return number::read_number(p, at, 2);
+    }
+    if w == 4 {
+        return number::read_number(p, at, 4);
+    }
+    number::read_number(p, at, w)
+}
+
 // The content of a known member; a struct's is yet to be walked.
 fn leaf_at(p: &[u8], cell: u64, i: usize, c: Span) -> Member
     requires { ⌜ FineRow (rowIn cell) × (c .from ≤ c .end) × (c .end ≤ length (now p)) × (kindIn cell < string → c .end ≡ c .from + sizeOf (kindIn cell)) ⌝ }
@@ -176,7 +203,7 @@ fn leaf_at(p: &[u8], cell: u64, i: usize, c: Span) -> Member
     if k < kind::STRING {
         let from = c.from;
         let n = c.end - from;
-        return Member::Leaf(spotted(i, number::read_number(p, from, n), 1, c));
+        return Member::Leaf(spotted(i, number_at(p, from, n), 1, c));
     }
     if k == kind::STRING {
         return string_at(p, cell, i, c);
@@ -198,6 +225,14 @@ fn known_at(p: &[u8], cell: u64, i: usize, width: usize, wire: u64, at: usize, e
     }
 }
 
+// The row of a Data ID among the direct members of a level.
+fn find_level(cells: &[u64; 64], f: Frame, ident: u64) -> Found
+    requires { ⌜ Stops (now cells) (f .first) (f .stop) (f .count) (f .level) × (f .count ≤ 64) × (f .level ≤ 5) × (ident < 4096) ⌝ }
+    ensures { λ r. ⌜ (r ≡ searchAt (f .count) (now (cells .entry)) (f .level) ident (f .first)) × Within (now (cells .entry)) (f .first) (f .count) (f .level) r ⌝ }
+{
+    table::find_in(cells, f.first, f.stop, f.level, ident)
+}
+
 // The member at a place below the level's end.
 fn member_at(p: &[u8], cells: &[u64; 64], marks: &[usize; 64], at: usize, f: Frame) -> Member
     requires { ⌜ Steady (now p) (now cells) f × (at < f .end) ⌝ }
@@ -209,7 +244,7 @@ fn member_at(p: &[u8], cells: &[u64; 64], marks: &[usize; 64], at: usize, f: Fra
     }
     let tag = number::read_number(p, at, 2);
     let wire = tag::wire_of(tag);
-    match table::find_row(cells, f.first, f.count, f.level, tag::ident_of(tag)) {
+    match find_level(cells, f, tag::ident_of(tag)) {
         Found::Nothing => unknown_at(p, f.width, wire, at + 2, end),
         Found::At(i) => {
             let cell = cells[i];
@@ -235,13 +270,16 @@ fn keep(words: &mut [u64; 64], marks: &mut [usize; 64], s: Spot)
 }
 
 // The level of a struct's members.
-fn inner(f: Frame, s: Spot) -> Frame
-    requires { ⌜ (f .level ≤ 4) × (s .row < 64) ⌝ }
-    ensures { λ r. ⌜ r ≡ innerOf f s ⌝ }
+fn inner(cells: &[u64; 64], f: Frame, s: Spot) -> Frame
+    requires { ⌜ (f .level ≤ 4) × (s .row < f .count) × (f .count ≤ 64) ⌝ }
+    ensures { λ r. ⌜ (r ≡ innerOf f s (r .stop)) × Stops (now (cells .entry)) (s .row + 1) (r .stop) (f .count) (f .level + 1) ⌝ }
 {
+    let first = s.row + 1;
+    let level = f.level + 1;
     Frame {
-        first: s.row + 1,
-        level: f.level + 1,
+        first: first,
+        stop: table::level_end(cells, first, f.count, level),
+        level: level,
         end: s.end,
         count: f.count,
         width: f.width,
@@ -250,20 +288,16 @@ fn inner(f: Frame, s: Spot) -> Frame
 
 // Whether a required row of a level was not met.
 fn lacks(cells: &[u64; 64], marks: &[usize; 64], f: Frame) -> bool
-    requires { ⌜ f .count ≤ 64 ⌝ }
+    requires { ⌜ (f .count ≤ 64) × Stops (now cells) (f .first) (f .stop) (f .count) (f .level) ⌝ }
     ensures { λ r. ⌜ ((words : List ℕ) → r ≡ lacksOf (f .level) (drop (f .first) (tableIn (f .count) (now (cells .entry))))
         (drop (f .first) (kept (tableIn (f .count) (now (cells .entry))) words (now (marks .entry))))) ⌝ }
 {
-    let n = f.count;
+    let n = f.stop;
     let level = f.level;
     let mut i = f.first;
     while i < n {
         let c = cells[i];
-        let l = table::level_in(c);
-        if l < level {
-            return false;
-        }
-        if l == level {
+        if table::level_in(c) == level {
             if table::is_required(c) {
                 if marks[i] == 0 {
                     return true;
@@ -306,7 +340,7 @@ fn read_member(
                 at: s.from,
                 skipped: c.skipped,
             };
-            read_level(p, cells, words, marks, start, inner(f, s))
+            read_level(p, cells, words, marks, start, inner(cells, f, s))
         }
     }
 }
@@ -429,6 +463,119 @@ fn kept_row(k: usize, word: u64, mark: usize) -> Row
     plain(Value::Members)
 }
 
+// A refusal: no member counts, and no row is kept; `filled` rows are set.
+fn stop(why: Verdict, place: usize, filled: usize) -> Ending
+    ensures { λ r. ⌜ r ≡ stopAt filled why place ⌝ }
+{
+    Ending {
+        verdict: why,
+        place: place,
+        skipped: 0,
+        filled: filled,
+        kept: 0,
+    }
+}
+
+// The walk under a checked table of `count` cells.
+fn read_cells(
+    p: &[u8],
+    cells: &[u64; 64],
+    words: &mut [u64; 64],
+    marks: &mut [usize; 64],
+    count: usize,
+    width: usize,
+) -> Ending
+    requires { ⌜ FineTable count (now cells) × (width ≤ 4) × (now words ≡ replicate 64 0) × (now marks ≡ replicate 64 0) ⌝ }
+    ensures { λ r. ⌜ Ended (now (cells .entry)) (now (words .exit)) (now (marks .exit)) r (answerOf count (walkedOf width (tableIn count (now (cells .entry))) (now (p .entry)))) ⌝ }
+{
+    let start = Cursor { at: 0, skipped: 0 };
+    let f = Frame {
+        first: 0,
+        stop: count,
+        level: 1,
+        end: p.len(),
+        count: count,
+        width: width,
+    };
+    match read_level(p, cells, words, marks, start, f) {
+        Walk::Refused(why, place) => stop(why, place, count),
+        Walk::Going(c) => Ending {
+            verdict: Verdict::Accepted,
+            place: 0,
+            skipped: c.skipped,
+            filled: count,
+            kept: count,
+        },
+    }
+}
+
+// 17, then the walk, under a checked table of `count` cells.
+fn limited(
+    p: &[u8],
+    cells: &[u64; 64],
+    words: &mut [u64; 64],
+    marks: &mut [usize; 64],
+    count: usize,
+    width: usize,
+) -> Ending
+    requires { ⌜ FineTable count (now cells) × (width ≤ 4) × (now words ≡ replicate 64 0) × (now marks ≡ replicate 64 0) ⌝ }
+    ensures { λ r. ⌜ Ended (now (cells .entry)) (now (words .exit)) (now (marks .exit)) r (checkedOf (now (p .entry)) (tableIn count (now (cells .entry))) count width) ⌝ }
+{
+    if PAYLOAD_MOST < p.len() {
+        return stop(Verdict::Large, 0, count);
+    }
+    read_cells(p, cells, words, marks, count, width)
+}
+
+// How the reading of a payload ends. Cells, words and marks are filled on the way.
+fn decided(
+    p: &[u8],
+    t: Table,
+    room: usize,
+    cells: &mut [u64; 64],
+    words: &mut [u64; 64],
+    marks: &mut [usize; 64],
+) -> Ending
+    requires { ⌜ (length (now cells) ≡ 64) × (now words ≡ replicate 64 0) × (now marks ≡ replicate 64 0) ⌝ }
+    ensures { λ r. ⌜ Ended (now (cells .exit)) (now (words .exit)) (now (marks .exit)) r (readingOf (now (p .entry)) t room) ⌝ }
+{
+    if !table::checked(t, cells) {
+        return stop(Verdict::Table, 0, 0);
+    }
+    let n = t.count;
+    if room < n {
+        return stop(Verdict::Room, 0, 0);
+    }
+    limited(p, cells, words, marks, n, t.width)
+}
+
+// Reads a payload under a type table, where `room` value rows are lent. Any payload, table and number of rows gets one answer. Its rows are
+// made here and in one place, for a by-value array costs a copy at each call.
+pub fn read_payload(p: &[u8], t: Table, room: usize) -> Reading
+    ensures { λ r. ⌜ r ≡ readingOf (now (p .entry)) t room ⌝ }
+{
+    let mut cells = [0u64; 64];
+    let mut words = [0u64; 64];
+    let mut marks = [0usize; 64];
+    let o = decided(p, t, room, &mut cells, &mut words, &mut marks);
+    let n = o.kept;
+    let mut rows = [plain(Value::Absent); 64];
+    let mut i: usize = 0;
+    while i < n {
+        let row = kept_row(table::kind_in(cells[i]), words[i], marks[i]);
+        rows[i] = row;
+        i += 1;
+    }
+    let verdict = o.verdict;
+    Reading {
+        verdict: verdict,
+        place: o.place,
+        skipped: o.skipped,
+        filled: o.filled,
+        rows: rows,
+    }
+}
+
 // The rows that are kept; rows beyond are absent.
 fn kept_rows(cells: &[u64; 64], words: &[u64; 64], marks: &[usize; 64], count: usize) -> [Row; 64]
     requires { ⌜ FineTable count (now cells) ⌝ }
@@ -444,7 +591,7 @@ fn kept_rows(cells: &[u64; 64], words: &[u64; 64], marks: &[usize; 64], count: u
     rows
 }
 
-// A refusal: no member counts, and the rows are absent, `filled` of them set.
+// A refusal as a reading: no member counts, and the rows are absent, `filled` of them set. For the layer above.
 pub fn refusal(why: Verdict, place: usize, filled: usize) -> Reading
     ensures { λ r. ⌜ r ≡ cleared filled why place ⌝ }
 {
@@ -457,55 +604,20 @@ pub fn refusal(why: Verdict, place: usize, filled: usize) -> Reading
     }
 }
 
-// The answer of the walk over a payload, under a checked table of `count` cells.
-fn read_cells(p: &[u8], cells: &[u64; 64], count: usize, width: usize) -> Reading
-    requires { ⌜ FineTable count (now cells) × (width ≤ 4) ⌝ }
-    ensures { λ r. ⌜ r ≡ answerOf count (walkedOf width (tableIn count (now (cells .entry))) (now (p .entry))) ⌝ }
-{
-    let mut words = [0u64; 64];
-    let mut marks = [0usize; 64];
-    let start = Cursor { at: 0, skipped: 0 };
-    let f = Frame {
-        first: 0,
-        level: 1,
-        end: p.len(),
-        count: count,
-        width: width,
-    };
-    match read_level(p, cells, &mut words, &mut marks, start, f) {
-        Walk::Refused(why, place) => refusal(why, place, count),
-        Walk::Going(c) => Reading {
-            verdict: Verdict::Accepted,
-            place: 0,
-            skipped: c.skipped,
-            filled: count,
-            rows: kept_rows(cells, &words, &marks, count),
-        },
-    }
-}
-
-// Reads a payload under a checked table of `count` cells. For the library's own crates: they have checked the table.
+// Reads a payload under a checked table of `count` cells. For the layer above, which has checked the table.
 pub fn read_checked(p: &[u8], cells: &[u64; 64], count: usize, width: usize) -> Reading
     requires { ⌜ FineTable count (now cells) × (width ≤ 4) ⌝ }
     ensures { λ r. ⌜ r ≡ checkedOf (now (p .entry)) (tableIn count (now (cells .entry))) count width ⌝ }
 {
-    if PAYLOAD_MOST < p.len() {
-        return refusal(Verdict::Large, 0, count);
+    let mut words = [0u64; 64];
+    let mut marks = [0usize; 64];
+    let o = limited(p, cells, &mut words, &mut marks, count, width);
+    let verdict = o.verdict;
+    Reading {
+        verdict: verdict,
+        place: o.place,
+        skipped: o.skipped,
+        filled: o.filled,
+        rows: kept_rows(cells, &words, &marks, o.kept),
     }
-    read_cells(p, cells, count, width)
-}
-
-// Reads a payload under a type table, where `room` value rows are lent. Any payload, table and number of rows gets one answer.
-pub fn read_payload(p: &[u8], t: Table, room: usize) -> Reading
-    ensures { λ r. ⌜ r ≡ readingOf (now (p .entry)) t room ⌝ }
-{
-    let mut cells = [0u64; 64];
-    if !table::checked(t, &mut cells) {
-        return refusal(Verdict::Table, 0, 0);
-    }
-    let n = t.count;
-    if room < n {
-        return refusal(Verdict::Room, 0, 0);
-    }
-    read_checked(p, &cells, n, t.width)
 }

@@ -2,12 +2,12 @@
 
 ghost use mathlib.Core.Path.{_≡_};
 ghost use mathlib.Core.Bool.{true};
-ghost use Prim.Native.Nat.{_≤_, _<_};
-ghost use lib.ListN.{length, drop};
+ghost use Prim.Native.Nat.{ℕ, _+_, _*_, _/_, _≤_, _<_};
+ghost use lib.ListN.{length, drop, getD};
 ghost use lib.Dec.{leb};
 ghost use Rattle.wire.specs.Choose.{and};
 ghost use Rattle.payload.specs.Table.{elemFits, structFits, rowFits, levelMost, widthFits, find, identsDiffer, tableFits};
-ghost use Rattle.payload.specs.Cells.{bitOf, cellOf, identIn, levelIn, kindIn, elemIn, requiredIn, tableIn, FineRow, FineTable, foundAt, missed, Within, Checked};
+ghost use Rattle.payload.specs.Cells.{bitOf, cellOf, identIn, levelIn, kindIn, elemIn, requiredIn, tableIn, FineRow, FineTable, foundAt, searchAt, missed, Within, Stops, KeyFour, Checked};
 
 const ARRAY: u8 = 13;
 
@@ -126,6 +126,74 @@ pub fn find_row(cells: &[u64; 64], first: usize, count: usize, level: u64, ident
         i += 1;
     }
     Found::Nothing
+}
+
+// Where the rows of a level end that begin at `first`: at the first row above the level, or with the table.
+pub fn level_end(cells: &[u64; 64], first: usize, count: usize, level: u64) -> usize
+    requires { ⌜ (first ≤ count) × (count ≤ 64) ⌝ }
+    ensures { λ r. ⌜ Stops (now (cells .entry)) first r count level ⌝ }
+{
+    let mut i = first;
+    while i < count {
+        if level_in(cells[i]) < level {
+            return i;
+        }
+        i += 1;
+    }
+    i
+}
+
+// How many of the four rows at `at` come before the first that has a key, which is level and Data ID.
+fn key_four(cells: &[u64; 64], at: usize, key: u64) -> usize
+    requires { ⌜ at + 4 ≤ 64 ⌝ }
+    ensures { λ r. ⌜ KeyFour (now (cells .entry)) at key r ⌝ }
+{
+    if cells[at] / 512 == key {
+        return 0;
+    }
+    if cells[at + 1] / 512 == key {
+        return 1;
+    }
+    if cells[at + 2] / 512 == key {
+        return 2;
+    }
+    if cells[at + 3] / 512 == key {
+        return 3;
+    }
+    4
+}
+
+// The row of a key from `first` to `stop`.
+fn find_key(cells: &[u64; 64], first: usize, stop: usize, key: u64) -> Found
+    requires { ⌜ (first ≤ stop) × (stop ≤ 64) ⌝ }
+    ensures { λ r. ⌜ ((l x : ℕ) → l < 16 → key ≡ x * 16 + l → ((i : ℕ) → first ≤ i → i < stop → l ≤ levelIn (getD (now (cells .entry)) i 0))
+        → (r ≡ searchAt stop (now (cells .entry)) l x first) × Within (now (cells .entry)) first stop l r) ⌝ }
+{
+    let mut i = first;
+    while i < stop {
+        if cells[i] / 512 == key {
+            return Found::At(i);
+        }
+        i += 1;
+    }
+    Found::Nothing
+}
+
+// The row of a Data ID among the direct members of the level whose rows are those from `first` to `stop`, four at a time.
+pub fn find_in(cells: &[u64; 64], first: usize, stop: usize, level: u64, ident: u64) -> Found
+    requires { ⌜ (first ≤ stop) × (stop ≤ 64) × (level < 16) × (ident < 4096) × ((i : ℕ) → first ≤ i → i < stop → level ≤ levelIn (getD (now cells) i 0)) ⌝ }
+    ensures { λ r. ⌜ (r ≡ searchAt stop (now (cells .entry)) level ident first) × Within (now (cells .entry)) first stop level r ⌝ }
+{
+    let key = ident * 16 + level;
+    let mut i = first;
+    while i + 4 <= stop {
+        let n = key_four(cells, i, key);
+        i += n;
+        if n < 4 {
+            return Found::At(i);
+        }
+    }
+    find_key(cells, i, stop, key)
 }
 
 // The level that the next row may have at most: one more behind a struct.

@@ -82,6 +82,16 @@ module _ (p : List ℕ) (end i : ℕ) where
           go zero some = absurd (omega arith)
           go (suc k) some = let z : suc k - 1 ≡ k = omega arith in rw (slice-cons i end p 0 h in-p, add-one i, e, z)
 
+-- a plain byte among the four at a place
+module _ (p : List ℕ) (end at : ℕ) (h : at + 4 ≤ end) (in-p : end ≤ length p) where
+  pub plain-first : eqb (following (getD p at 0)) 0 ≡ true → textFits (slice at end p) ≡ textFits (slice (at + 1) end p)
+  plain-first e = text-plain p end at (omega arith) in-p e
+
+  pub plain-next : (k : ℕ) → k < 4 → eqb (following (getD p (at + k) 0)) 0 ≡ true → textFits (slice (at + k) end p) ≡ textFits (slice (at + suc k) end p)
+  plain-next k few e =
+      let z : at + k + 1 ≡ at + suc k = omega arith in
+      text-plain p end (at + k) (omega arith) in-p e ∙ ap (λ (j : ℕ). textFits (slice j end p)) z
+
 -- ---- a string's content, by places
 
 -- mark, terminator and text

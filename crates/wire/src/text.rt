@@ -2,7 +2,7 @@
 
 ghost use mathlib.Core.Path.{_≡_};
 ghost use mathlib.Core.Bool.{true};
-ghost use Prim.Native.Nat.{_+_, _≤_};
+ghost use Prim.Native.Nat.{ℕ, _+_, _≤_};
 ghost use lib.ListN.{length};
 ghost use lib.Seq.{slice};
 ghost use lib.Dec.{eqb};
@@ -54,6 +54,42 @@ fn is_plain(b: u8) -> bool
     b < 0x80
 }
 
+// How many of the four bytes at `at` are plain, up to the first that isn't.
+fn plain_four(p: &[u8], at: usize) -> usize
+    requires { ⌜ at + 4 ≤ length (now p) ⌝ }
+    ensures { λ r. ⌜ (r ≤ 4) × ((end : ℕ) → at + 4 ≤ end → end ≤ length (now (p .entry)) → textFits (slice at end (now (p .entry))) ≡ textFits (slice (at + r) end (now (p .entry)))) ⌝ }
+{
+    if !is_plain(p[at]) {
+        return 0;
+    }
+    if !is_plain(p[at + 1]) {
+        return 1;
+    }
+    if !is_plain(p[at + 2]) {
+        return 2;
+    }
+    if !is_plain(p[at + 3]) {
+        return 3;
+    }
+    4
+}
+
+// Passes plain bytes by fours, until one isn't plain or fewer than four are left.
+fn plain_to(p: &[u8], from: usize, end: usize) -> usize
+    requires { ⌜ (from ≤ end) × (end ≤ length (now p)) ⌝ }
+    ensures { λ r. ⌜ (from ≤ r) × (r ≤ end) × (textFits (slice from end (now (p .entry))) ≡ textFits (slice r end (now (p .entry)))) ⌝ }
+{
+    let mut i = from;
+    while 4 <= end - i {
+        let n = plain_four(p, i);
+        i += n;
+        if n < 4 {
+            return i;
+        }
+    }
+    i
+}
+
 // Whether n bytes from `at` on are there before `end` and follow.
 fn followed(p: &[u8], at: usize, end: usize, n: usize) -> bool
     requires { ⌜ (at ≤ end) × (end ≤ length (now p)) ⌝ }
@@ -81,7 +117,7 @@ pub fn text_fits(p: &[u8], from: usize, end: usize) -> bool
     while i < end {
         let b = p[i];
         if is_plain(b) {
-            i += 1;
+            i = plain_to(p, i + 1, end);
         } else {
             let n = following_of(b);
             if n == 4 {

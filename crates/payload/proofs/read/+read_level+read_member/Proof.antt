@@ -127,7 +127,9 @@ read-level-lacks-requires : (t : ℕ) → read-level-lts.Need-lacks-requires (
   lacks-reads.Asked,
   lacks-reads.Learnt,
 ) (read-level-at t) read-level.Post read-level-Inv-loop read-level-μ-loop
-read-level-lacks-requires t c κs = c .before .before .before .loop .inv .ready .steady .fine .few
+read-level-lacks-requires t c κs =
+    let s = c .before .before .before .loop .inv .ready .steady in
+    (s .fine .few, s .stops)
 
 read-level-returns-2 : (t : ℕ) → read-level-lts.Need-returns-2 (
   read-member-below t,
@@ -266,8 +268,8 @@ read-member-read-level-requires : (t : ℕ) → read-member-lts.Need-read-level-
 read-member-read-level-requires t c κs =
     let q = c .before .before .before .before .before .before .before .before .before .before .before .before .pre .1 in
     let less = inner-less _ _ _ _ _ _ (q .0) (q .1) _ (c .before .before .before .before .before .before .before .before .before .member-at .ensures) _ _ _ (c .before .before .before .keep2 .ensures .0) (c .before .before .before .keep2 .ensures .1) (c .before .before .before .before .before .before .before .s2 .given .1) in (
-      rw (c .inner .ensures) (omega (arith, c .before .before .before .before .before .before .before .before .before .before .before .before .pre .0, less)),
-      inner-ready _ _ _ _ _ _ (q .0) (q .1) _ (c .before .before .before .before .before .before .before .before .before .member-at .ensures) _ _ _ (c .before .before .before .keep2 .ensures .0) (c .before .before .before .keep2 .ensures .1) (c .before .before .before .before .before .before .before .s2 .given .1) _ refl _ (c .inner .ensures),
+      rw (c .inner .ensures .0) (omega (arith, c .before .before .before .before .before .before .before .before .before .before .before .before .pre .0, less)),
+      inner-ready _ _ _ _ _ _ (q .0) (q .1) _ (c .before .before .before .before .before .before .before .before .before .member-at .ensures) _ _ _ (c .before .before .before .keep2 .ensures .0) (c .before .before .before .keep2 .ensures .1) (c .before .before .before .before .before .before .before .s2 .given .1) _ refl _ (c .inner .ensures .0) (c .inner .ensures .1),
     )
 
 read-member-returns : (t : ℕ) → read-member-lts.Need-returns (
@@ -317,7 +319,7 @@ read-member-returns-4 : (t : ℕ) → read-member-lts.Need-returns-4 (
   read-level.Post,
 ) (read-member-at t) read-member.Post
 read-member-returns-4 t c =
-    read-struct _ _ _ _ _ _ (c .before .before .before .before .before .before .before .before .before .before .before .before .before .pre .1 .0) (c .before .before .before .before .before .before .before .before .before .before .before .before .before .pre .1 .1) _ (c .before .before .before .before .before .before .before .before .before .before .member-at .ensures) _ _ _ (c .before .before .before .before .keep2 .ensures .0) (c .before .before .before .before .keep2 .ensures .1) (c .before .before .before .before .before .before .before .before .s2 .given .1) _ refl _ (c .before .inner .ensures) _ _ _ (c .read-level .ensures)
+    read-struct _ _ _ _ _ _ (c .before .before .before .before .before .before .before .before .before .before .before .before .before .pre .1 .0) (c .before .before .before .before .before .before .before .before .before .before .before .before .before .pre .1 .1) _ (c .before .before .before .before .before .before .before .before .before .before .member-at .ensures) _ _ _ (c .before .before .before .before .keep2 .ensures .0) (c .before .before .before .before .keep2 .ensures .1) (c .before .before .before .before .before .before .before .before .s2 .given .1) _ refl _ (c .before .inner .ensures .0) _ _ _ (c .read-level .ensures)
 
 pub +read-level+read-member-spec : {M : Type 1} → statement M
 +read-level+read-member-spec = close μ-read-level μ-read-member (λ t. read-level-lts.spec (

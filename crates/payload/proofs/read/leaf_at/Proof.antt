@@ -15,8 +15,8 @@ kind-in-requires c κs = search needs
 sub-n : tie.Need-sub-n
 sub-n c = search needs
 
-read-number-requires : tie.Need-read-number-requires
-read-number-requires c κs =
+number-at-requires : tie.Need-number-at-requires
+number-at-requires c κs =
     let q = c .before .before .before .before .pre in
     let k = c .before .before .kind-in .ensures in
     omega (arith, q .2, q .1, q .3 (omega arith), size-small _ (q .0 .kind-in))
@@ -28,7 +28,7 @@ returns : tie.Need-returns
 returns c =
     let q = c .before .before .before .before .before .before .pre in
     let k = c .before .before .before .before .kind-in .ensures in
-    content-number _ _ _ _ (q .1) (q .2) _ _ (omega arith) (q .3 (omega arith)) refl (c .before .read-number .ensures .0) (c .before .read-number .ensures .1) _ (ap Leaf (c .spotted .ensures))
+    content-number _ _ _ _ (q .1) (q .2) _ _ (omega arith) (q .3 (omega arith)) refl (c .before .number-at .ensures .0) (c .before .number-at .ensures .1) _ (ap Leaf (c .spotted .ensures))
 
 string-at-requires : tie.Need-string-at-requires
 string-at-requires c κs = (sym (c .before .before .kind-in .ensures) ∙ c .if2 .taken, c .before .before .before .before .pre .1, c .before .before .before .before .pre .2)
@@ -57,7 +57,7 @@ leaf-at-spec =
     (tie.spec
     kind-in-requires
     sub-n
-    read-number-requires
+    number-at-requires
     spotted-requires
     returns
     string-at-requires

@@ -30,8 +30,10 @@ wire-of-requires c κs = search needs
 ident-of-requires : tie.Need-ident-of-requires
 ident-of-requires c κs = search needs
 
-find-row-requires : tie.Need-find-row-requires
-find-row-requires c κs = search needs
+find-level-requires : tie.Need-find-level-requires
+find-level-requires c κs =
+    let s = c .before .before .before .before .before .pre .0 in
+    (s .stops, s .fine .few, s .low, omega arith)
 
 enum-told : tie.Need-enum-told
 enum-told c = search needs
@@ -46,31 +48,31 @@ enum-known-i : tie.Need-enum-known-i
 enum-known-i c = search needs
 
 mul-cell : tie.Need-mul-cell
-mul-cell c = let h = rw (c .before .i .given .1) at (c .before .before .before .find-row .ensures .1) in omega (arith, c .before .before .before .before .before .before .before .before .before .pre .0 .fine .few)
+mul-cell c = let h = rw (c .before .i .given .1) at (c .before .before .before .find-level .ensures .1) in omega (arith, c .before .before .before .before .before .before .before .before .before .pre .0 .fine .few)
 
 element-copy-out-cell : tie.Need-element-copy-out-cell
-element-copy-out-cell c = let h = rw (c .before .i .given .1) at (c .before .before .before .find-row .ensures .1) in omega (arith, c .before .before .before .before .before .before .before .before .before .pre .0 .fine .few)
+element-copy-out-cell c = let h = rw (c .before .i .given .1) at (c .before .before .before .find-level .ensures .1) in omega (arith, c .before .before .before .before .before .before .before .before .before .pre .0 .fine .few)
 
 kind-in-requires : tie.Need-kind-in-requires
 kind-in-requires c κs = search needs
 
 wire-fits-requires : tie.Need-wire-fits-requires
-wire-fits-requires c κs = let h = rw (c .before .before .before .i .given .1) at (c .before .before .before .before .before .find-row .ensures .1) in omega (arith, c .kind-in .ensures, c .before .before .before .before .before .before .before .before .before .before .before .pre .0 .fine .each (c .before .before .before .i .given .0 .0) (h .1) .kind-in)
+wire-fits-requires c κs = let h = rw (c .before .before .before .i .given .1) at (c .before .before .before .before .before .find-level .ensures .1) in omega (arith, c .kind-in .ensures, c .before .before .before .before .before .before .before .before .before .before .before .pre .0 .fine .each (c .before .before .before .i .given .0 .0) (h .1) .kind-in)
 
 returns-2 : tie.Need-returns-2
 returns-2 c =
-    member-wire _ _ _ _ _ (c .before .before .before .before .before .before .before .before .before .before .before .before .before .pre .0) (c .before .before .before .before .before .before .before .before .before .before .before .if1 .left) _ (c .before .before .before .before .before .before .before .before .before .before .read-number .ensures .0) _ (c .before .before .before .before .before .before .before .before .before .wire-of .ensures) _ (c .before .before .before .before .before .before .before .before .ident-of .ensures) _ (c .before .before .before .before .before .before .before .find-row .ensures .0) (c .before .before .before .before .before .before .before .find-row .ensures .1) _ (c .before .before .before .before .before .i .given .1)
+    member-wire _ _ _ _ _ (c .before .before .before .before .before .before .before .before .before .before .before .before .before .pre .0) (c .before .before .before .before .before .before .before .before .before .before .before .if1 .left) _ (c .before .before .before .before .before .before .before .before .before .before .read-number .ensures .0) _ (c .before .before .before .before .before .before .before .before .before .wire-of .ensures) _ (c .before .before .before .before .before .before .before .before .ident-of .ensures) _ (c .before .before .before .before .before .before .before .find-level .ensures .0) (c .before .before .before .before .before .before .before .find-level .ensures .1) _ (c .before .before .before .before .before .i .given .1)
     (fits _ (c .before .before .kind-in .ensures) (c .before .wire-fits .ensures) (not-true _ (c .if2 .taken))) _ refl
 
 mul-if3 : tie.Need-mul-if3
-mul-if3 c = let h = rw (c .before .before .before .before .before .i .given .1) at (c .before .before .before .before .before .before .before .find-row .ensures .1) in omega (arith, c .before .before .before .before .before .before .before .before .before .before .before .before .before .pre .0 .fine .few)
+mul-if3 c = let h = rw (c .before .before .before .before .before .i .given .1) at (c .before .before .before .before .before .before .before .find-level .ensures .1) in omega (arith, c .before .before .before .before .before .before .before .before .before .before .before .before .before .pre .0 .fine .few)
 
 element-copy-out-if3 : tie.Need-element-copy-out-if3
-element-copy-out-if3 c = let h = rw (c .before .before .before .before .before .i .given .1) at (c .before .before .before .before .before .before .before .find-row .ensures .1) in omega (arith, c .before .before .before .before .before .before .before .before .before .before .before .before .before .pre .0 .fine .few)
+element-copy-out-if3 c = let h = rw (c .before .before .before .before .before .i .given .1) at (c .before .before .before .before .before .before .before .find-level .ensures .1) in omega (arith, c .before .before .before .before .before .before .before .before .before .before .before .before .before .pre .0 .fine .few)
 
 returns-3 : tie.Need-returns-3
 returns-3 c =
-    member-twice _ _ _ _ _ (c .before .before .before .before .before .before .before .before .before .before .before .before .before .before .before .pre .0) (c .before .before .before .before .before .before .before .before .before .before .before .before .before .if1 .left) _ (c .before .before .before .before .before .before .before .before .before .before .before .before .read-number .ensures .0) _ (c .before .before .before .before .before .before .before .before .before .before .before .wire-of .ensures) _ (c .before .before .before .before .before .before .before .before .before .before .ident-of .ensures) _ (c .before .before .before .before .before .before .before .before .before .find-row .ensures .0) (c .before .before .before .before .before .before .before .before .before .find-row .ensures .1) _ (c .before .before .before .before .before .before .before .i .given .1)
+    member-twice _ _ _ _ _ (c .before .before .before .before .before .before .before .before .before .before .before .before .before .before .before .pre .0) (c .before .before .before .before .before .before .before .before .before .before .before .before .before .if1 .left) _ (c .before .before .before .before .before .before .before .before .before .before .before .before .read-number .ensures .0) _ (c .before .before .before .before .before .before .before .before .before .before .before .wire-of .ensures) _ (c .before .before .before .before .before .before .before .before .before .before .ident-of .ensures) _ (c .before .before .before .before .before .before .before .before .before .find-level .ensures .0) (c .before .before .before .before .before .before .before .before .before .find-level .ensures .1) _ (c .before .before .before .before .before .before .before .i .given .1)
     (fits _ (c .before .before .before .before .kind-in .ensures) (c .before .before .before .wire-fits .ensures) (not-false _ (c .before .before .if2 .left))) (c .if3 .taken) _ refl
 
 add-known-at : tie.Need-add-known-at
@@ -78,16 +80,16 @@ add-known-at c = search needs
 
 known-at-requires : tie.Need-known-at-requires
 known-at-requires c κs =
-    let h = rw (c .before .before .before .before .before .before .before .i .given .1) at (c .before .before .before .before .before .before .before .before .before .find-row .ensures .1) in
+    let h = rw (c .before .before .before .before .before .before .before .i .given .1) at (c .before .before .before .before .before .before .before .before .before .find-level .ensures .1) in
     (c .before .before .before .before .before .before .before .before .before .before .before .before .before .before .before .pre .0 .fine .each _ (h .1), fits _ (c .before .before .before .before .kind-in .ensures) (c .before .before .before .wire-fits .ensures) (not-false _ (c .before .before .if2 .left)), omega (arith, c .before .before .before .before .before .before .before .before .before .before .before .before .before .if1 .left), c .before .before .before .before .before .before .before .before .before .before .before .before .before .before .before .pre .0 .bounded, c .before .before .before .before .before .before .before .before .before .before .before .before .before .before .before .pre .0 .narrow)
 
 returns-4 : tie.Need-returns-4
 returns-4 c =
-    member-unknown _ _ _ _ _ (c .before .before .before .before .before .before .before .before .before .pre .0) (c .before .before .before .before .before .before .before .if1 .left) _ (c .before .before .before .before .before .before .read-number .ensures .0) _ (c .before .before .before .before .before .wire-of .ensures) _ (c .before .before .before .before .ident-of .ensures) _ (c .before .before .before .find-row .ensures .0) (c .before .before .before .find-row .ensures .1) (c .before .enum-told .given .1) _ (c .unknown-at .ensures)
+    member-unknown _ _ _ _ _ (c .before .before .before .before .before .before .before .before .before .pre .0) (c .before .before .before .before .before .before .before .if1 .left) _ (c .before .before .before .before .before .before .read-number .ensures .0) _ (c .before .before .before .before .before .wire-of .ensures) _ (c .before .before .before .before .ident-of .ensures) _ (c .before .before .before .find-level .ensures .0) (c .before .before .before .find-level .ensures .1) (c .before .enum-told .given .1) _ (c .unknown-at .ensures)
 
 returns-5 : tie.Need-returns-5
 returns-5 c =
-    member-known _ _ _ _ _ (c .before .before .before .before .before .before .before .before .before .before .before .before .before .before .before .before .pre .0) (c .before .before .before .before .before .before .before .before .before .before .before .before .before .before .if1 .left) _ (c .before .before .before .before .before .before .before .before .before .before .before .before .before .read-number .ensures .0) _ (c .before .before .before .before .before .before .before .before .before .before .before .before .wire-of .ensures) _ (c .before .before .before .before .before .before .before .before .before .before .before .ident-of .ensures) _ (c .before .before .before .before .before .before .before .before .before .before .find-row .ensures .0) (c .before .before .before .before .before .before .before .before .before .before .find-row .ensures .1) _ (c .before .before .before .before .before .before .before .before .i .given .1)
+    member-known _ _ _ _ _ (c .before .before .before .before .before .before .before .before .before .before .before .before .before .before .before .before .pre .0) (c .before .before .before .before .before .before .before .before .before .before .before .before .before .before .if1 .left) _ (c .before .before .before .before .before .before .before .before .before .before .before .before .before .read-number .ensures .0) _ (c .before .before .before .before .before .before .before .before .before .before .before .before .wire-of .ensures) _ (c .before .before .before .before .before .before .before .before .before .before .before .ident-of .ensures) _ (c .before .before .before .before .before .before .before .before .before .before .find-level .ensures .0) (c .before .before .before .before .before .before .before .before .before .before .find-level .ensures .1) _ (c .before .before .before .before .before .before .before .before .i .given .1)
     (fits _ (c .before .before .before .before .before .kind-in .ensures) (c .before .before .before .before .wire-fits .ensures) (not-false _ (c .before .before .before .if2 .left))) (c .before .if3 .left) _ (c .known-at .ensures)
 
 pub member-at-spec : {M : Type 1} → statement M
@@ -99,7 +101,7 @@ member-at-spec =
     read-number-requires
     wire-of-requires
     ident-of-requires
-    find-row-requires
+    find-level-requires
     enum-told
     add-unknown-at
     unknown-at-requires

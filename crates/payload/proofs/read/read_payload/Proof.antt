@@ -1,40 +1,98 @@
--- `payload::read::read_payload` meets its contract: the verdicts 1 and 2 in their order, then 17 and the walk.
+-- `payload::read::read_payload` meets its contract. The loop's invariant: the first i rows are there, and those beyond are absent.
 -- Assumes nothing.
-use borrow.Author.Tests.{not-true, not-false}
-use Rattle.payload.proofs.ReadLaws.{reading-table, reading-room, reading-checked}
+use mathlib.Core.Path.{_≡_, refl, sym, ap, _∙_}
+use Prim.Native.Nat.{_≤_, _-_}
+use native.Mathlib.Omega.{arith}
 use borrow.Author.Needs.{needs}
+use Rattle.payload.specs.Cells.{tableIn, FineTable}
+use Rattle.payload.proofs.KeptLaws.{firstRows, kept-more, kept-all}
 use Rattle.payload.proofs.read.read_payload.Statement.{statement}
 use Rattle.payload.proofs.read.read_payload.Tie as tie
 
-checked-requires : tie.Need-checked-requires
-checked-requires c κs = search needs
+abbrev Inv-loop : tie.InvT-loop
+Inv-loop p room cells words marks o n rows₀ i₀ rows i = (i ≤ n) × (n ≤ 64) × (rows ≡ firstRows (tableIn n cells) words marks i)
 
-refusal-requires : tie.Need-refusal-requires
-refusal-requires c κs = search needs
+abbrev μ-loop : tie.MeasureT-loop
+μ-loop p room cells words marks o n rows₀ i₀ rows i = n - i
 
-returns : tie.Need-returns
-returns c = reading-table _ _ _ _ _ (c .before .before .checked .ensures) (not-true _ (c .before .if1 .taken)) _ (c .refusal .ensures)
+decided-requires : tie.Need-decided-requires Inv-loop μ-loop
+decided-requires c κs = search needs
 
-refusal-requires-2 : tie.Need-refusal-requires-2
-refusal-requires-2 c κs = search needs
+plain-requires : tie.Need-plain-requires Inv-loop μ-loop
+plain-requires c κs = search needs
 
-returns-2 : tie.Need-returns-2
-returns-2 c = reading-room _ _ _ _ _ (c .before .before .before .checked .ensures) (not-false _ (c .before .before .if1 .left)) (c .before .if2 .taken) _ (c .refusal2 .ensures)
+loop-holds : tie.Need-loop-holds Inv-loop μ-loop
+loop-holds c = (omega arith, c .before .decided .ensures .fine .few, rw (c .plain .ensures))
 
-read-checked-requires : tie.Need-read-checked-requires
-read-checked-requires c κs = let k = c .before .before .before .checked .ensures .filled (not-false _ (c .before .before .if1 .left)) in (k .fine, k .width-in)
+mul-kind-in : tie.Need-mul-kind-in Inv-loop μ-loop
+mul-kind-in c = search needs
 
-returns-3 : tie.Need-returns-3
-returns-3 c = reading-checked _ _ _ _ _ (c .before .before .before .before .checked .ensures) (not-false _ (c .before .before .before .if1 .left)) (c .before .before .if2 .left) _ (c .read-checked .ensures)
+array-read-kind-in : tie.Need-array-read-kind-in Inv-loop μ-loop
+array-read-kind-in c = search needs
+
+kind-in-requires : tie.Need-kind-in-requires Inv-loop μ-loop
+kind-in-requires c κs = search needs
+
+mul-kept-row : tie.Need-mul-kept-row Inv-loop μ-loop
+mul-kept-row c = search needs
+
+array-read-kept-row : tie.Need-array-read-kept-row Inv-loop μ-loop
+array-read-kept-row c = search needs
+
+mul-kept-row-2 : tie.Need-mul-kept-row-2 Inv-loop μ-loop
+mul-kept-row-2 c = search needs
+
+array-read-kept-row-2 : tie.Need-array-read-kept-row-2 Inv-loop μ-loop
+array-read-kept-row-2 c = search needs
+
+kept-row-requires : tie.Need-kept-row-requires Inv-loop μ-loop
+kept-row-requires c κs =
+    let h = c .before .before .before .before .decided .ensures .fine .each _ (c .before .loop-test .taken) in
+    omega (arith, c .kind-in .ensures, h .kind-some, h .kind-in)
+
+mul-rows : tie.Need-mul-rows Inv-loop μ-loop
+mul-rows c = search needs
+
+array-set-from-rows : tie.Need-array-set-from-rows Inv-loop μ-loop
+array-set-from-rows c = search needs
+
+add-i : tie.Need-add-i Inv-loop μ-loop
+add-i c = search needs
+
+loop-less : tie.Need-loop-less Inv-loop μ-loop
+loop-less c = search needs
+
+loop-again : tie.Need-loop-again Inv-loop μ-loop
+loop-again c =
+    let few = c .before .before .before .before .before .decided .ensures .fine .few in
+    (omega arith, few, kept-more _ _ _ _ _ (c .before .before .loop-test .taken) few _ (c .before .before .before .loop .inv .2) _ (c .before .kind-in .ensures) _ (c .kept-row .ensures))
+
+returns : tie.Need-returns Inv-loop μ-loop
+returns c =
+    let d = c .before .before .before .decided in
+    let l = c .before .loop in
+    rw (kept-all _ _ _ _ _ (c .loop-test .left) _ (l .inv .2)) (d .ensures .is)
 
 pub read-payload-spec : {M : Type 1} → statement M
 read-payload-spec =
     tie.close
     (tie.spec
-    checked-requires
-    refusal-requires
-    returns
-    refusal-requires-2
-    returns-2
-    read-checked-requires
-    returns-3)
+    Inv-loop
+    μ-loop
+    decided-requires
+    plain-requires
+    loop-holds
+    mul-kind-in
+    array-read-kind-in
+    kind-in-requires
+    mul-kept-row
+    array-read-kept-row
+    mul-kept-row-2
+    array-read-kept-row-2
+    kept-row-requires
+    mul-rows
+    array-set-from-rows
+    add-i
+    loop-less
+    loop-again
+    returns)

@@ -27,17 +27,22 @@ shared-slice-read-b c = search needs
 is-plain-requires : tie.Need-is-plain-requires Inv-loop μ-loop
 is-plain-requires c κs = search needs
 
-add-i : tie.Need-add-i Inv-loop μ-loop
-add-i c = search needs
+add-plain-to : tie.Need-add-plain-to Inv-loop μ-loop
+add-plain-to c = search needs
+
+plain-to-requires : tie.Need-plain-to-requires Inv-loop μ-loop
+plain-to-requires c κs = search needs
 
 loop-less : tie.Need-loop-less Inv-loop μ-loop
 loop-less c = search needs
 
 loop-again : tie.Need-loop-again Inv-loop μ-loop
 loop-again c =
-    let a = c .before .before .before .before .before .before .args in
-    let t = c .before .before .before .before .loop in
-    (omega arith, t .inv .1 ∙ text-plain (a .p .now) (a .end) (t .i) (omega arith) (omega arith) (sym (c .before .is-plain .ensures) ∙ c .if1 .taken))
+    let a = c .before .before .before .before .before .before .before .args in
+    let t = c .before .before .before .before .before .loop in
+    let r = c .plain-to .ensures in
+    let one = text-plain (a .p .now) (a .end) (t .i) (omega arith) (omega arith) (sym (c .before .before .is-plain .ensures) ∙ c .before .if1 .taken) in
+    (r .1, t .inv .1 ∙ one ∙ r .2)
 
 following-of-requires : tie.Need-following-of-requires Inv-loop μ-loop
 following-of-requires c κs = search needs
@@ -63,11 +68,11 @@ returns-2 c =
     let whole = text-follow (a .p .now) (a .end) (t .i) (omega arith) (omega arith) (n .result) (n .ensures) (c .before .before .if2 .left) in
     sym (t .inv .1 ∙ whole (f .result) false (not-true _ (c .if3 .taken)) (f .ensures .0))
 
-add-i-2 : tie.Need-add-i-2 Inv-loop μ-loop
-add-i-2 c = omega arith
+add-i : tie.Need-add-i Inv-loop μ-loop
+add-i c = omega arith
 
-add-i-3 : tie.Need-add-i-3 Inv-loop μ-loop
-add-i-3 c = omega (arith, c .before .followed .ensures .1 (not-false _ (c .if3 .left)))
+add-i-2 : tie.Need-add-i-2 Inv-loop μ-loop
+add-i-2 c = omega (arith, c .before .followed .ensures .1 (not-false _ (c .if3 .left)))
 
 loop-less-2 : tie.Need-loop-less-2 Inv-loop μ-loop
 loop-less-2 c = search needs
@@ -97,7 +102,8 @@ text-fits-spec =
     loop-holds
     shared-slice-read-b
     is-plain-requires
-    add-i
+    add-plain-to
+    plain-to-requires
     loop-less
     loop-again
     following-of-requires
@@ -105,8 +111,8 @@ text-fits-spec =
     add-followed
     followed-requires
     returns-2
+    add-i
     add-i-2
-    add-i-3
     loop-less-2
     loop-again-2
     returns-3)
