@@ -19,13 +19,13 @@ use Rattle.payload.specs.Promises.{
 use Rattle.payload.specs.Settled.{WriteSettled}
 use Rattle.payload.specs.Demand2.{Demand2Holds, Demand2Answered, CasesWritten, CasesBack}
 use Rattle.payload.proofs.Writing.WrittenLaws as settled
-use Rattle.payload.proofs.Demand2 as demand
-use Rattle.payload.proofs.Demand2Cases as cases
-use Rattle.payload.proofs.TableLaws as table
-use Rattle.payload.proofs.Accepted.{accept-law}
-use Rattle.payload.proofs.Unique.{tree-unique}
-use Rattle.payload.proofs.Refusals.{reading-refused, reading-filled, reading-place, reading-inside, reading-shown}
-use Rattle.payload.proofs.Inner.{entered}
+use Rattle.payload.proofs.Round.Demand2 as demand
+use Rattle.payload.proofs.Round.Demand2Cases as cases
+use Rattle.payload.proofs.Rules.TableLaws as table
+use Rattle.payload.proofs.Trees.Accepted.{accept-law}
+use Rattle.payload.proofs.Trees.Unique.{tree-unique}
+use Rattle.payload.proofs.Trees.Refusals.{reading-refused, reading-filled, reading-place, reading-inside, reading-shown}
+use Rattle.payload.proofs.Trees.Inner.{entered}
 
 pub table-decided : TableDecided
 table-decided t all = record { fits-keeps = table.fits-keeps t all; keeps-fits = table.keeps-fits t all }

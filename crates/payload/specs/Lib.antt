@@ -16,4 +16,7 @@ pub mod Columns
 pub mod Sizes
 pub mod Cases
 pub mod Demand2
+pub mod Paths
+pub mod Demand3
+pub mod Demand3Cases
 pub mod Promises

@@ -16,7 +16,7 @@ use Rattle.payload.specs.Cells.{rowIn, kindIn, tableIn}
 use Rattle.payload.specs.Row.{absentRow}
 use Rattle.payload.specs.Judging.{outside, rowFine, upAfter, judgedFrom, judgedOf}
 use Rattle.payload.specs.Columns.{heldOf, Packed, PackedAt}
-use Rattle.payload.proofs.CellLaws.{rows-here, rows-end}
+use Rattle.payload.proofs.Rules.CellLaws.{rows-here, rows-end}
 use Rattle.payload.proofs.Writing.PackLaws.{value-packed, fine-fits}
 
 -- what holds of the first i rows: they are kept, and the rows from there on decide

@@ -26,9 +26,9 @@ use Rattle.payload.specs.Judging.{judgedOf}
 use Rattle.payload.specs.Writing.{runWire, partsOf, nested, someWide, Outcome, refused, done, sizedOf, ifFine, treeOf, outcomeOf, answerIs, outputIs}
 use Rattle.payload.specs.Sizes.{Wires, Ready, fittedOf}
 use Rattle.payload.proofs.Joined.{and-left, and-right}
-use Rattle.payload.proofs.CellLaws.{row-at, table-length}
-use Rattle.payload.proofs.RowLaws.{fits-rules}
-use Rattle.payload.proofs.CheckLaws.{Tests, fits-tests}
+use Rattle.payload.proofs.Rules.CellLaws.{row-at, table-length}
+use Rattle.payload.proofs.Rules.RowLaws.{fits-rules}
+use Rattle.payload.proofs.Rules.CheckLaws.{Tests, fits-tests}
 
 -- ---- an answer and an output settle an outcome
 

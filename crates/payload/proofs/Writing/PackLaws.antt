@@ -25,7 +25,7 @@ use Rattle.payload.specs.Columns.{heldOf, putIn, Kept, Packed, ShortRun}
 use Rattle.wire.proofs.NumberLaws.{low-twos}
 use Rattle.wire.proofs.KindLaws.{size-small, number-some}
 use Rattle.payload.proofs.Joined.{and-left, and-right}
-use Rattle.payload.proofs.RowLaws.{range-in}
+use Rattle.payload.proofs.Rules.RowLaws.{range-in}
 use Rattle.payload.proofs.Writing.Nesting.{absent-value}
 
 -- a signed number that is in range, as the laws of numbers have it

@@ -24,7 +24,7 @@ use Rattle.payload.specs.Columns.{flipOf}
 use Rattle.wire.proofs.NumberLaws.{pow-bytes}
 use Rattle.wire.proofs.KindLaws.{number-some}
 use Rattle.payload.proofs.Joined.{refuted}
-use Rattle.payload.proofs.RowLaws.{range-in, in-range}
+use Rattle.payload.proofs.Rules.RowLaws.{range-in, in-range}
 
 -- ---- kinds
 

@@ -25,7 +25,7 @@ use Rattle.payload.specs.Parts.{under, wideUnder}
 use Rattle.payload.specs.Columns.{putIn, partsIn, Kept, PackedAt}
 use Rattle.payload.specs.Sizes.{wholeOf, Columns, restIn, wholeAt, sizedIs, Measured, Ready, fittedOf}
 use Rattle.payload.proofs.Joined.{clash}
-use Rattle.payload.proofs.CellLaws.{rows-here, rows-end}
+use Rattle.payload.proofs.Rules.CellLaws.{rows-here, rows-end}
 use Rattle.payload.proofs.Writing.Flat.{Shaped, flat-bytes, flat-wide}
 use Rattle.payload.proofs.Writing.Nesting.{judged-shaped}
 use Rattle.payload.proofs.Writing.OutcomeLaws.{sized-wide, sized-narrow}

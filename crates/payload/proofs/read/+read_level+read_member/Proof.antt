@@ -4,7 +4,7 @@
 use mathlib.Core.Path.{refl, sym, _∙_}
 use native.Mathlib.Omega.{arith}
 use borrow.Author.Needs.{needs}
-use Rattle.payload.proofs.LevelLaws.{
+use Rattle.payload.proofs.Walking.LevelLaws.{
   OnWay,
   way-none,
   way-more,

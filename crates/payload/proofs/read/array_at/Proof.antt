@@ -5,7 +5,7 @@ use native.Mathlib.Omega.{arith}
 use Rattle.wire.specs.Kind.{sizeOf}
 use Rattle.payload.specs.declared.read.Member.the-variants.{Leaf}
 use Rattle.wire.proofs.KindLaws.{number-some}
-use Rattle.payload.proofs.MemberLaws.{content-array, content-no-array}
+use Rattle.payload.proofs.Walking.MemberLaws.{content-array, content-no-array}
 use borrow.Author.Needs.{needs}
 use Rattle.payload.proofs.read.array_at.Statement.{statement}
 use Rattle.payload.proofs.read.array_at.Tie as tie

@@ -1,7 +1,7 @@
 -- `payload::read::content_at` meets its contract.
 -- Assumes nothing.
 use native.Mathlib.Omega.{arith}
-use Rattle.payload.proofs.ContentLaws.{field-few, fixed-cut, fixed-in, field-cut, lengthed-cut, lengthed-in}
+use Rattle.payload.proofs.Walking.ContentLaws.{field-few, fixed-cut, fixed-in, field-cut, lengthed-cut, lengthed-in}
 use borrow.Author.Needs.{needs}
 use Rattle.payload.proofs.read.content_at.Statement.{statement}
 use Rattle.payload.proofs.read.content_at.Tie as tie

@@ -1,7 +1,7 @@
 -- `payload::read::decided` meets its contract: the verdicts 1 and 2 in their order, then 17 and the walk.
 -- Assumes nothing.
 use borrow.Author.Tests.{not-true, not-false}
-use Rattle.payload.proofs.ReadLaws.{reading-table, reading-room, reading-checked}
+use Rattle.payload.proofs.Walking.ReadLaws.{reading-table, reading-room, reading-checked}
 use borrow.Author.Needs.{needs}
 use Rattle.payload.proofs.read.decided.Statement.{statement}
 use Rattle.payload.proofs.read.decided.Tie as tie

@@ -2,7 +2,7 @@
 -- Assumes nothing.
 use native.Mathlib.Omega.{arith}
 use borrow.Author.Needs.{needs}
-use Rattle.payload.proofs.CellLaws.{level-search, level-within}
+use Rattle.payload.proofs.Rules.CellLaws.{level-search, level-within}
 use Rattle.payload.proofs.read.find_level.Statement.{statement}
 use Rattle.payload.proofs.read.find_level.Tie as tie
 

@@ -2,7 +2,7 @@
 -- Assumes nothing.
 use mathlib.Core.Path.{_≡_, refl, sym, ap, _∙_}
 use native.Mathlib.Omega.{arith}
-use Rattle.payload.proofs.KeptLaws.{low-below}
+use Rattle.payload.proofs.Walking.KeptLaws.{low-below}
 use borrow.Author.Tests.{eq-eqb, ne-eqb, lt-ltb, le-ltb}
 use Rattle.payload.specs.Row.{numberRow}
 use Rattle.payload.specs.Walking.{keptRow}

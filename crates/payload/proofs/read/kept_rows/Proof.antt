@@ -6,8 +6,8 @@ use native.Mathlib.Omega.{arith}
 use denote.Ref.{now}
 use borrow.Author.Needs.{needs}
 use Rattle.payload.specs.Cells.{tableIn}
-use Rattle.payload.proofs.CellLaws.{table-length}
-use Rattle.payload.proofs.KeptLaws.{firstRows, first-all, kept-more}
+use Rattle.payload.proofs.Rules.CellLaws.{table-length}
+use Rattle.payload.proofs.Walking.KeptLaws.{firstRows, first-all, kept-more}
 use Rattle.payload.proofs.read.kept_rows.Statement.{statement}
 use Rattle.payload.proofs.read.kept_rows.Tie as tie
 

@@ -3,8 +3,8 @@
 use mathlib.Core.Path.{refl, sym, ap, _∙_}
 use native.Mathlib.Omega.{arith}
 use Rattle.wire.proofs.KindLaws.{number-fixed}
-use Rattle.payload.proofs.ContentLaws.{fixed-sized}
-use Rattle.payload.proofs.MemberLaws.{known-cut, known-in}
+use Rattle.payload.proofs.Walking.ContentLaws.{fixed-sized}
+use Rattle.payload.proofs.Walking.MemberLaws.{known-cut, known-in}
 use borrow.Author.Needs.{needs}
 use Rattle.payload.proofs.read.known_at.Statement.{statement}
 use Rattle.payload.proofs.read.known_at.Tie as tie

@@ -9,7 +9,7 @@ use native.Mathlib.Numerals.{add-one}
 use borrow.Author.Needs.{needs}
 use Rattle.payload.specs.Cells.{Stops}
 use Rattle.payload.proofs.Joined.{clash}
-use Rattle.payload.proofs.LackLaws.{lacksAt, lacks-this, lacks-next, lacks-stop}
+use Rattle.payload.proofs.Walking.LackLaws.{lacksAt, lacks-this, lacks-next, lacks-stop}
 use Rattle.payload.proofs.read.lacks.Statement.{statement}
 use Rattle.payload.proofs.read.lacks.Tie as tie
 

@@ -4,7 +4,7 @@ use mathlib.Core.Path.{refl, sym, ap, _∙_}
 use native.Mathlib.Omega.{arith}
 use Rattle.payload.specs.declared.read.Member.the-variants.{Leaf, Struct}
 use Rattle.wire.proofs.KindLaws.{size-small}
-use Rattle.payload.proofs.MemberLaws.{content-number, content-struct}
+use Rattle.payload.proofs.Walking.MemberLaws.{content-number, content-struct}
 use borrow.Author.Needs.{needs}
 use Rattle.payload.proofs.read.leaf_at.Statement.{statement}
 use Rattle.payload.proofs.read.leaf_at.Tie as tie

@@ -1,6 +1,6 @@
 -- `payload::read::limited` meets its contract: 17, then the walk.
 -- Assumes nothing.
-use Rattle.payload.proofs.ReadLaws.{limited-large, limited-walk}
+use Rattle.payload.proofs.Walking.ReadLaws.{limited-large, limited-walk}
 use borrow.Author.Needs.{needs}
 use Rattle.payload.proofs.read.limited.Statement.{statement}
 use Rattle.payload.proofs.read.limited.Tie as tie

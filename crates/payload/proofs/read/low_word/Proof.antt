@@ -3,7 +3,7 @@
 use mathlib.Core.Path.{_≡_, refl, sym, _∙_}
 use native.Mathlib.Omega.{arith}
 use native.Mathlib.Nat.{mod-eq-of-lt}
-use Rattle.payload.proofs.KeptLaws.{size-eight}
+use Rattle.payload.proofs.Walking.KeptLaws.{size-eight}
 use borrow.Author.Needs.{needs}
 use Rattle.payload.proofs.read.low_word.Statement.{statement}
 use Rattle.payload.proofs.read.low_word.Tie as tie

@@ -6,7 +6,7 @@ use mathlib.Core.Bool.{Bool}
 use native.Mathlib.Omega.{arith}
 use borrow.Author.Tests.{not-true, not-false}
 use Rattle.wire.specs.Kind.{wireFits}
-use Rattle.payload.proofs.MemberLaws.{member-cut, member-unknown, member-wire, member-twice, member-known}
+use Rattle.payload.proofs.Walking.MemberLaws.{member-cut, member-unknown, member-wire, member-twice, member-known}
 use borrow.Author.Needs.{needs}
 use Rattle.payload.proofs.read.member_at.Statement.{statement}
 use Rattle.payload.proofs.read.member_at.Tie as tie

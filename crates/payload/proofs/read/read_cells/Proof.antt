@@ -3,7 +3,7 @@
 use mathlib.Core.Path.{_≡_, refl, ap}
 use native.Mathlib.Omega.{arith}
 use lib.ListN.{length}
-use Rattle.payload.proofs.ReadLaws.{read-refused, read-accepted}
+use Rattle.payload.proofs.Walking.ReadLaws.{read-refused, read-accepted}
 use borrow.Author.Needs.{needs}
 use Rattle.payload.proofs.read.read_cells.Statement.{statement}
 use Rattle.payload.proofs.read.read_cells.Tie as tie

@@ -5,7 +5,7 @@ use Prim.Native.Nat.{_≤_, _-_}
 use native.Mathlib.Omega.{arith}
 use borrow.Author.Needs.{needs}
 use Rattle.payload.specs.Cells.{tableIn, FineTable}
-use Rattle.payload.proofs.KeptLaws.{firstRows, kept-more, kept-all}
+use Rattle.payload.proofs.Walking.KeptLaws.{firstRows, kept-more, kept-all}
 use Rattle.payload.proofs.read.read_payload.Statement.{statement}
 use Rattle.payload.proofs.read.read_payload.Tie as tie
 

@@ -4,7 +4,7 @@ use mathlib.Core.Path.{refl, sym, ap, _∙_}
 use native.Mathlib.Omega.{arith}
 use denote.Ref.{now}
 use Rattle.payload.specs.declared.read.Member.the-variants.{Leaf}
-use Rattle.payload.proofs.MemberLaws.{string-long, content-text, content-no-text}
+use Rattle.payload.proofs.Walking.MemberLaws.{string-long, content-text, content-no-text}
 use borrow.Author.Needs.{needs}
 use Rattle.payload.proofs.read.string_at.Statement.{statement}
 use Rattle.payload.proofs.read.string_at.Tie as tie

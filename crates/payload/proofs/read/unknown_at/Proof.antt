@@ -1,7 +1,7 @@
 -- `payload::read::unknown_at` meets its contract.
 -- Assumes nothing.
 use mathlib.Core.Path.{refl}
-use Rattle.payload.proofs.MemberLaws.{unknown-cut, unknown-in}
+use Rattle.payload.proofs.Walking.MemberLaws.{unknown-cut, unknown-in}
 use borrow.Author.Needs.{needs}
 use Rattle.payload.proofs.read.unknown_at.Statement.{statement}
 use Rattle.payload.proofs.read.unknown_at.Tie as tie

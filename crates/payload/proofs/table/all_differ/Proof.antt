@@ -9,7 +9,7 @@ use borrow.Author.Tests.{not-true, not-false}
 use lib.ListN.{drop}
 use Rattle.payload.specs.Table.{identsDiffer}
 use Rattle.payload.specs.Cells.{tableIn}
-use Rattle.payload.proofs.CellLaws.{differ-stop, differ-next, differ-end}
+use Rattle.payload.proofs.Rules.CellLaws.{differ-stop, differ-next, differ-end}
 use Rattle.payload.proofs.table.all_differ.Statement.{statement}
 use Rattle.payload.proofs.table.all_differ.Tie as tie
 

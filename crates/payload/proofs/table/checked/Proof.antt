@@ -9,8 +9,8 @@ use borrow.Author.Tests.{not-true, not-false}
 use mathlib.Core.List.{List, map}
 use lib.ListN.{length, length-map}
 use Rattle.payload.proofs.Joined.{clash}
-use Rattle.payload.proofs.RowLaws.{fits-rules, fine-row}
-use Rattle.payload.proofs.CheckLaws.{refuse, Passed, passed-none, passed-stop, passed-next, all-fine, answer-differ, answer-rising}
+use Rattle.payload.proofs.Rules.RowLaws.{fits-rules, fine-row}
+use Rattle.payload.proofs.Rules.CheckLaws.{refuse, Passed, passed-none, passed-stop, passed-next, all-fine, answer-differ, answer-rising}
 use Rattle.payload.proofs.table.checked.Statement.{statement}
 use Rattle.payload.proofs.table.checked.Tie as tie
 

@@ -1,6 +1,6 @@
 -- `elem_fits` meets its contract: one law for each return.
 -- Assumes nothing.
-use Rattle.payload.proofs.RowLaws.{elem-lacks, elem-has, elem-wrong, elem-next}
+use Rattle.payload.proofs.Rules.RowLaws.{elem-lacks, elem-has, elem-wrong, elem-next}
 use borrow.Author.Needs.{needs}
 use Rattle.payload.proofs.table.elem_fits.Statement.{statement}
 use Rattle.payload.proofs.table.elem_fits.Tie as tie

@@ -5,7 +5,7 @@ use Prim.Native.Nat.{_+_, _*_, _-_, _≤_}
 use native.Mathlib.Omega.{arith}
 use borrow.Author.Needs.{needs}
 use Rattle.payload.specs.Cells.{searchAt}
-use Rattle.payload.proofs.CellLaws.{find-this, within-later}
+use Rattle.payload.proofs.Rules.CellLaws.{find-this, within-later}
 use Rattle.payload.proofs.table.find_in.Statement.{statement}
 use Rattle.payload.proofs.table.find_in.Tie as tie
 

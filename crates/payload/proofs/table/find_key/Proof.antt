@@ -7,7 +7,7 @@ use native.Mathlib.Omega.{arith}
 use borrow.Author.Needs.{needs}
 use lib.ListN.{getD}
 use Rattle.payload.specs.Cells.{levelIn, searchAt}
-use Rattle.payload.proofs.CellLaws.{find-end, find-this, find-next}
+use Rattle.payload.proofs.Rules.CellLaws.{find-end, find-this, find-next}
 use Rattle.payload.proofs.table.find_key.Statement.{statement}
 use Rattle.payload.proofs.table.find_key.Tie as tie
 

@@ -8,7 +8,7 @@ use borrow.Author.Needs.{needs}
 use lib.ListN.{drop}
 use Rattle.payload.specs.Table.{find}
 use Rattle.payload.specs.Cells.{tableIn, foundAt}
-use Rattle.payload.proofs.CellLaws.{find-end, find-this, find-above, find-next}
+use Rattle.payload.proofs.Rules.CellLaws.{find-end, find-this, find-above, find-next}
 use Rattle.payload.proofs.table.find_row.Statement.{statement}
 use Rattle.payload.proofs.table.find_row.Tie as tie
 

@@ -6,7 +6,7 @@ use native.Mathlib.Omega.{arith}
 use borrow.Author.Needs.{needs}
 use lib.ListN.{getD}
 use Rattle.payload.specs.Cells.{searchAt}
-use Rattle.payload.proofs.CellLaws.{key-first, key-next}
+use Rattle.payload.proofs.Rules.CellLaws.{key-first, key-next}
 use Rattle.payload.proofs.table.key_four.Statement.{statement}
 use Rattle.payload.proofs.table.key_four.Tie as tie
 

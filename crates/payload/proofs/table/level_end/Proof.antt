@@ -5,7 +5,7 @@ use native.Mathlib.Omega.{arith}
 use borrow.Author.Needs.{needs}
 use lib.ListN.{getD}
 use Rattle.payload.specs.Cells.{levelIn}
-use Rattle.payload.proofs.CellLaws.{deep-more}
+use Rattle.payload.proofs.Rules.CellLaws.{deep-more}
 use Rattle.payload.proofs.table.level_end.Statement.{statement}
 use Rattle.payload.proofs.table.level_end.Tie as tie
 

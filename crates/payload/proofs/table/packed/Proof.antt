@@ -1,7 +1,7 @@
 -- `packed` meets its contract: each sum fits, since the row is fine.
 -- Assumes nothing.
 use native.Mathlib.Omega.{arith}
-use Rattle.payload.proofs.CellLaws.{bit-small}
+use Rattle.payload.proofs.Rules.CellLaws.{bit-small}
 use borrow.Author.Needs.{needs}
 use Rattle.payload.proofs.table.packed.Statement.{statement}
 use Rattle.payload.proofs.table.packed.Tie as tie

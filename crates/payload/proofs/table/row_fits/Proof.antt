@@ -2,7 +2,7 @@
 -- Assumes nothing.
 use native.Mathlib.Omega.{arith}
 use mathlib.Core.Path.{_∙_}
-use Rattle.payload.proofs.RowLaws.{row-breaks, row-elem}
+use Rattle.payload.proofs.Rules.RowLaws.{row-breaks, row-elem}
 use borrow.Author.Needs.{needs}
 use Rattle.payload.proofs.table.row_fits.Statement.{statement}
 use Rattle.payload.proofs.table.row_fits.Tie as tie

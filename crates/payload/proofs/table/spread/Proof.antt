@@ -7,7 +7,7 @@ use borrow.Author.Needs.{needs}
 use lib.ListN.{length, drop, length-set}
 use Rattle.payload.specs.Cells.{tableIn}
 use Rattle.payload.proofs.Joined.{clash}
-use Rattle.payload.proofs.Spread.{apart, apart-differ, apart-next, apart-end}
+use Rattle.payload.proofs.Rules.Spread.{apart, apart-differ, apart-next, apart-end}
 use Rattle.payload.proofs.table.spread.Statement.{statement}
 use Rattle.payload.proofs.table.spread.Tie as tie
 
