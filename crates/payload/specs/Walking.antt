@@ -13,14 +13,14 @@ use Rattle.payload.specs.declared.row.Row.{Row}
 use Rattle.payload.specs.declared.row.Value.the-variants.{Bytes}
 use Rattle.payload.specs.declared.read.Reading.{Reading}
 use Rattle.payload.specs.declared.read.Ending.{Ending}
-use Rattle.payload.specs.declared.read.Frame.{Frame}
+use Rattle.payload.specs.declared.member.Frame.{Frame}
 use Rattle.payload.specs.declared.read.Cursor.{Cursor}
-use Rattle.payload.specs.declared.read.Span.{Span}
-use Rattle.payload.specs.declared.read.Spot.{Spot}
-use Rattle.payload.specs.declared.read.Content.{Content}
-use Rattle.payload.specs.declared.read.Content.the-variants.{In, Cut}
-use Rattle.payload.specs.declared.read.Member.{Member}
-use Rattle.payload.specs.declared.read.Member.the-variants.{Bad, Unknown, Leaf, Struct}
+use Rattle.payload.specs.declared.member.Span.{Span}
+use Rattle.payload.specs.declared.member.Spot.{Spot}
+use Rattle.payload.specs.declared.member.Content.{Content}
+use Rattle.payload.specs.declared.member.Content.the-variants.{In, Cut}
+use Rattle.payload.specs.declared.member.Member.{Member}
+use Rattle.payload.specs.declared.member.Member.the-variants.{Bad, Unknown, Leaf, Struct}
 use Rattle.payload.specs.declared.read.Walk.{Walk}
 use Rattle.payload.specs.declared.read.Walk.the-variants.{Going, Refused}
 use Rattle.payload.specs.Table.{rowAt}

@@ -13,8 +13,8 @@ use Rattle.wire.specs.Choose.{pick}
 use Rattle.wire.specs.Number.{big, numberOf}
 use Rattle.wire.specs.Tag.{fixedSize, fieldWidth}
 use Rattle.wire.specs.declared.verdict.Verdict.the-variants.{FieldCut, Overrun}
-use Rattle.payload.specs.declared.read.Content.{Content}
-use Rattle.payload.specs.declared.read.Content.the-variants.{In, Cut}
+use Rattle.payload.specs.declared.member.Content.{Content}
+use Rattle.payload.specs.declared.member.Content.the-variants.{In, Cut}
 use Rattle.payload.specs.Reading.{cut, content, contentOf, lengthedOf, bodyOf}
 use Rattle.payload.specs.Walking.{bodyIn, Inside}
 use Rattle.payload.proofs.Walking.Slices.{part-take, part-drop}

@@ -13,11 +13,11 @@ use Rattle.wire.specs.declared.verdict.Verdict.{Verdict}
 use Rattle.wire.specs.declared.verdict.Verdict.the-variants.{Missing}
 use Rattle.payload.specs.declared.table.TypeRow.{TypeRow}
 use Rattle.payload.specs.declared.row.Row.{Row}
-use Rattle.payload.specs.declared.read.Frame.{Frame}
+use Rattle.payload.specs.declared.member.Frame.{Frame}
 use Rattle.payload.specs.declared.read.Cursor.{Cursor}
-use Rattle.payload.specs.declared.read.Spot.{Spot}
-use Rattle.payload.specs.declared.read.Member.{Member}
-use Rattle.payload.specs.declared.read.Member.the-variants.{Bad, Unknown, Leaf, Struct}
+use Rattle.payload.specs.declared.member.Spot.{Spot}
+use Rattle.payload.specs.declared.member.Member.{Member}
+use Rattle.payload.specs.declared.member.Member.the-variants.{Bad, Unknown, Leaf, Struct}
 use Rattle.payload.specs.declared.read.Walk.{Walk}
 use Rattle.payload.specs.declared.read.Walk.the-variants.{Going, Refused}
 use Rattle.payload.specs.Table.{rowAt}

@@ -21,13 +21,13 @@ use Rattle.wire.specs.declared.verdict.Verdict.{Verdict}
 use Rattle.wire.specs.declared.verdict.Verdict.the-variants.{TagCut, Wire, Twice, Array, Text}
 use Rattle.payload.specs.declared.table.TypeRow.{TypeRow}
 use Rattle.payload.specs.declared.row.Row.{Row}
-use Rattle.payload.specs.declared.read.Frame.{Frame}
-use Rattle.payload.specs.declared.read.Span.{Span}
-use Rattle.payload.specs.declared.read.Spot.{Spot}
-use Rattle.payload.specs.declared.read.Content.{Content}
-use Rattle.payload.specs.declared.read.Content.the-variants.{In, Cut}
-use Rattle.payload.specs.declared.read.Member.{Member}
-use Rattle.payload.specs.declared.read.Member.the-variants.{Bad, Unknown, Leaf, Struct}
+use Rattle.payload.specs.declared.member.Frame.{Frame}
+use Rattle.payload.specs.declared.member.Span.{Span}
+use Rattle.payload.specs.declared.member.Spot.{Spot}
+use Rattle.payload.specs.declared.member.Content.{Content}
+use Rattle.payload.specs.declared.member.Content.the-variants.{In, Cut}
+use Rattle.payload.specs.declared.member.Member.{Member}
+use Rattle.payload.specs.declared.member.Member.the-variants.{Bad, Unknown, Leaf, Struct}
 use Rattle.payload.specs.Table.{find, rowAt}
 use Rattle.payload.specs.declared.table.Found.{Found}
 use Rattle.payload.specs.declared.table.Found.the-variants.{At, Nothing}

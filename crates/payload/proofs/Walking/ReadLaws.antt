@@ -14,7 +14,7 @@ use Rattle.payload.specs.declared.table.TypeRow.{TypeRow}
 use Rattle.payload.specs.declared.table.Table.{Table}
 use Rattle.payload.specs.declared.read.Reading.{Reading}
 use Rattle.payload.specs.declared.read.Ending.{Ending}
-use Rattle.payload.specs.declared.read.Frame.{Frame}
+use Rattle.payload.specs.declared.member.Frame.{Frame}
 use Rattle.payload.specs.declared.read.Cursor.{Cursor}
 use Rattle.payload.specs.declared.read.Walk.{Walk}
 use Rattle.payload.specs.declared.read.Walk.the-variants.{Going, Refused}

@@ -31,7 +31,7 @@ use Rattle.payload.proofs.read.+read_level+read_member.Lts-read_member 
 use Rattle.payload.proofs.read.inner.Reads as inner-reads
 use Rattle.payload.proofs.read.keep.Reads as keep-reads
 use Rattle.payload.proofs.read.lacks.Reads as lacks-reads
-use Rattle.payload.proofs.read.member_at.Reads as member-at-reads
+use Rattle.payload.proofs.member.member_at.Reads as member-at-reads
 use Rattle.payload.proofs.read.+read_level+read_member.{statement}
 use Rattle.payload.proofs.read.+read_level+read_member.Tie.{close}
 

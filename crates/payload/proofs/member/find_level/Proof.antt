@@ -1,10 +1,10 @@
--- `payload::read::find_level` meets its contract: the level's own rows are enough.
+-- `payload::member::find_level` meets its contract: the level's own rows are enough.
 -- Assumes nothing.
 use native.Mathlib.Omega.{arith}
 use borrow.Author.Needs.{needs}
 use Rattle.payload.proofs.Rules.CellLaws.{level-search, level-within}
-use Rattle.payload.proofs.read.find_level.Statement.{statement}
-use Rattle.payload.proofs.read.find_level.Tie as tie
+use Rattle.payload.proofs.member.find_level.Statement.{statement}
+use Rattle.payload.proofs.member.find_level.Tie as tie
 
 find-in-requires : tie.Need-find-in-requires
 find-in-requires c κs =

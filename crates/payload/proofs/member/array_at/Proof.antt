@@ -1,14 +1,14 @@
--- `payload::read::array_at` meets its contract.
+-- `payload::member::array_at` meets its contract.
 -- Assumes nothing.
 use mathlib.Core.Path.{refl, sym, ap, _∙_}
 use native.Mathlib.Omega.{arith}
 use Rattle.wire.specs.Kind.{sizeOf}
-use Rattle.payload.specs.declared.read.Member.the-variants.{Leaf}
+use Rattle.payload.specs.declared.member.Member.the-variants.{Leaf}
 use Rattle.wire.proofs.KindLaws.{number-some}
 use Rattle.payload.proofs.Walking.MemberLaws.{content-array, content-no-array}
 use borrow.Author.Needs.{needs}
-use Rattle.payload.proofs.read.array_at.Statement.{statement}
-use Rattle.payload.proofs.read.array_at.Tie as tie
+use Rattle.payload.proofs.member.array_at.Statement.{statement}
+use Rattle.payload.proofs.member.array_at.Tie as tie
 
 elem-in-requires : tie.Need-elem-in-requires
 elem-in-requires c κs = search needs

@@ -1,9 +1,9 @@
--- `payload::read::half_of` meets its contract. Each return goes by the tests that led there.
+-- `payload::rows::half_of` meets its contract. Each return goes by the tests that led there.
 -- Assumes nothing.
 use mathlib.Core.Path.{_≡_, refl}
 use native.Mathlib.Omega.{arith}
-use Rattle.payload.proofs.read.half_of.Statement.{statement}
-use Rattle.payload.proofs.read.half_of.Tie as tie
+use Rattle.payload.proofs.rows.half_of.Statement.{statement}
+use Rattle.payload.proofs.rows.half_of.Tie as tie
 
 returns : tie.Need-returns
 returns c = rw (c .if1 .taken) (refl, refl, omega arith, omega arith)

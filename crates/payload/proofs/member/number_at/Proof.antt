@@ -1,8 +1,8 @@
--- `payload::read::number_at` meets its contract: it reads by the width that a test found.
+-- `payload::member::number_at` meets its contract: it reads by the width that a test found.
 -- Assumes nothing.
 use borrow.Author.Needs.{needs}
-use Rattle.payload.proofs.read.number_at.Statement.{statement}
-use Rattle.payload.proofs.read.number_at.Tie as tie
+use Rattle.payload.proofs.member.number_at.Statement.{statement}
+use Rattle.payload.proofs.member.number_at.Tie as tie
 
 read-number-requires : tie.Need-read-number-requires
 read-number-requires c κs = search needs

@@ -1,10 +1,10 @@
--- `payload::read::content_at` meets its contract.
+-- `payload::member::content_at` meets its contract.
 -- Assumes nothing.
 use native.Mathlib.Omega.{arith}
 use Rattle.payload.proofs.Walking.ContentLaws.{field-few, fixed-cut, fixed-in, field-cut, lengthed-cut, lengthed-in}
 use borrow.Author.Needs.{needs}
-use Rattle.payload.proofs.read.content_at.Statement.{statement}
-use Rattle.payload.proofs.read.content_at.Tie as tie
+use Rattle.payload.proofs.member.content_at.Statement.{statement}
+use Rattle.payload.proofs.member.content_at.Tie as tie
 
 fixed-size-requires : tie.Need-fixed-size-requires
 fixed-size-requires c κs = search needs

@@ -1,4 +1,4 @@
--- `payload::read::known_at` meets its contract.
+-- `payload::member::known_at` meets its contract.
 -- Assumes nothing.
 use mathlib.Core.Path.{refl, sym, ap, _∙_}
 use native.Mathlib.Omega.{arith}
@@ -6,8 +6,8 @@ use Rattle.wire.proofs.KindLaws.{number-fixed}
 use Rattle.payload.proofs.Walking.ContentLaws.{fixed-sized}
 use Rattle.payload.proofs.Walking.MemberLaws.{known-cut, known-in}
 use borrow.Author.Needs.{needs}
-use Rattle.payload.proofs.read.known_at.Statement.{statement}
-use Rattle.payload.proofs.read.known_at.Tie as tie
+use Rattle.payload.proofs.member.known_at.Statement.{statement}
+use Rattle.payload.proofs.member.known_at.Tie as tie
 
 content-at-requires : tie.Need-content-at-requires
 content-at-requires c κs = search needs

@@ -1,12 +1,12 @@
--- `payload::read::low_word` meets its contract. A number has 1, 2, 4 or 8 bytes, and a word has 8.
+-- `payload::rows::low_word` meets its contract. A number has 1, 2, 4 or 8 bytes, and a word has 8.
 -- Assumes nothing.
 use mathlib.Core.Path.{_≡_, refl, sym, _∙_}
 use native.Mathlib.Omega.{arith}
 use native.Mathlib.Nat.{mod-eq-of-lt}
 use Rattle.payload.proofs.Walking.KeptLaws.{size-eight}
 use borrow.Author.Needs.{needs}
-use Rattle.payload.proofs.read.low_word.Statement.{statement}
-use Rattle.payload.proofs.read.low_word.Tie as tie
+use Rattle.payload.proofs.rows.low_word.Statement.{statement}
+use Rattle.payload.proofs.rows.low_word.Tie as tie
 
 size-of-requires : tie.Need-size-of-requires
 size-of-requires c κs = search needs

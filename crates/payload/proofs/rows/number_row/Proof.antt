@@ -1,4 +1,4 @@
--- `payload::read::number_row` meets its contract. Each return goes by the tests that led there.
+-- `payload::rows::number_row` meets its contract. Each return goes by the tests that led there.
 -- Assumes nothing.
 use mathlib.Core.Path.{_≡_, refl, sym, ap, _∙_}
 use native.Mathlib.Omega.{arith}
@@ -8,8 +8,8 @@ use borrow.Author.Tests.{eq-eqb, ne-eqb, lt-ltb, le-ltb}
 use Rattle.wire.specs.Number.{signedOf, signedBy}
 use Rattle.payload.specs.Row.{plain, numberRow}
 use borrow.Author.Needs.{needs}
-use Rattle.payload.proofs.read.number_row.Statement.{statement}
-use Rattle.payload.proofs.read.number_row.Tie as tie
+use Rattle.payload.proofs.rows.number_row.Statement.{statement}
+use Rattle.payload.proofs.rows.number_row.Tie as tie
 
 plain-requires : tie.Need-plain-requires
 plain-requires c κs = search needs

@@ -1,13 +1,13 @@
--- `payload::read::string_at` meets its contract.
+-- `payload::member::string_at` meets its contract.
 -- Assumes nothing.
 use mathlib.Core.Path.{refl, sym, ap, _∙_}
 use native.Mathlib.Omega.{arith}
 use denote.Ref.{now}
-use Rattle.payload.specs.declared.read.Member.the-variants.{Leaf}
+use Rattle.payload.specs.declared.member.Member.the-variants.{Leaf}
 use Rattle.payload.proofs.Walking.MemberLaws.{string-long, content-text, content-no-text}
 use borrow.Author.Needs.{needs}
-use Rattle.payload.proofs.read.string_at.Statement.{statement}
-use Rattle.payload.proofs.read.string_at.Tie as tie
+use Rattle.payload.proofs.member.string_at.Statement.{statement}
+use Rattle.payload.proofs.member.string_at.Tie as tie
 
 string-fits-requires : tie.Need-string-fits-requires
 string-fits-requires c κs = search needs

@@ -1,4 +1,4 @@
--- `payload::read::member_at` meets its contract. Each return is one law of the definition, at the facts on its way.
+-- `payload::member::member_at` meets its contract. Each return is one law of the definition, at the facts on its way.
 -- Assumes nothing.
 use mathlib.Core.Path.{_≡_, refl, sym, ap, _∙_}
 use Prim.Native.Nat.{ℕ}
@@ -8,8 +8,8 @@ use borrow.Author.Tests.{not-true, not-false}
 use Rattle.wire.specs.Kind.{wireFits}
 use Rattle.payload.proofs.Walking.MemberLaws.{member-cut, member-unknown, member-wire, member-twice, member-known}
 use borrow.Author.Needs.{needs}
-use Rattle.payload.proofs.read.member_at.Statement.{statement}
-use Rattle.payload.proofs.read.member_at.Tie as tie
+use Rattle.payload.proofs.member.member_at.Statement.{statement}
+use Rattle.payload.proofs.member.member_at.Tie as tie
 
 -- what the test of the wire type says of the cell's kind
 fits : (wire : ℕ) {k kind : ℕ} {t b : Bool} → k ≡ kind → t ≡ wireFits k wire → t ≡ b → wireFits kind wire ≡ b

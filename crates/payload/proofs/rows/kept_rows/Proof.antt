@@ -1,4 +1,4 @@
--- `payload::read::kept_rows` meets its contract. The loop's invariant: the first i rows are there, and those beyond are absent.
+-- `payload::rows::kept_rows` meets its contract. The loop's invariant: the first i rows are there, and those beyond are absent.
 -- Assumes nothing.
 use mathlib.Core.Path.{_≡_, refl, sym, ap, _∙_}
 use Prim.Native.Nat.{_≤_, _-_}
@@ -8,8 +8,8 @@ use borrow.Author.Needs.{needs}
 use Rattle.payload.specs.Cells.{tableIn}
 use Rattle.payload.proofs.Rules.CellLaws.{table-length}
 use Rattle.payload.proofs.Walking.KeptLaws.{firstRows, first-all, kept-more}
-use Rattle.payload.proofs.read.kept_rows.Statement.{statement}
-use Rattle.payload.proofs.read.kept_rows.Tie as tie
+use Rattle.payload.proofs.rows.kept_rows.Statement.{statement}
+use Rattle.payload.proofs.rows.kept_rows.Tie as tie
 
 abbrev Inv-loop : tie.InvT-loop
 Inv-loop cells words marks count rows₀ i₀ rows i = (i ≤ count) × (rows ≡ firstRows (tableIn count cells) words marks i)

@@ -1,4 +1,4 @@
--- `payload::read::kept_row` meets its contract. Each return goes by the tests that led there.
+-- `payload::rows::kept_row` meets its contract. Each return goes by the tests that led there.
 -- Assumes nothing.
 use mathlib.Core.Path.{_≡_, refl, sym, ap, _∙_}
 use native.Mathlib.Omega.{arith}
@@ -7,8 +7,8 @@ use borrow.Author.Tests.{eq-eqb, ne-eqb, lt-ltb, le-ltb}
 use Rattle.payload.specs.Row.{numberRow}
 use Rattle.payload.specs.Walking.{keptRow}
 use borrow.Author.Needs.{needs}
-use Rattle.payload.proofs.read.kept_row.Statement.{statement}
-use Rattle.payload.proofs.read.kept_row.Tie as tie
+use Rattle.payload.proofs.rows.kept_row.Statement.{statement}
+use Rattle.payload.proofs.rows.kept_row.Tie as tie
 
 plain-requires : tie.Need-plain-requires
 plain-requires c κs = search needs

@@ -1,10 +1,10 @@
--- `payload::read::unknown_at` meets its contract.
+-- `payload::member::unknown_at` meets its contract.
 -- Assumes nothing.
 use mathlib.Core.Path.{refl}
 use Rattle.payload.proofs.Walking.MemberLaws.{unknown-cut, unknown-in}
 use borrow.Author.Needs.{needs}
-use Rattle.payload.proofs.read.unknown_at.Statement.{statement}
-use Rattle.payload.proofs.read.unknown_at.Tie as tie
+use Rattle.payload.proofs.member.unknown_at.Statement.{statement}
+use Rattle.payload.proofs.member.unknown_at.Tie as tie
 
 content-at-requires : tie.Need-content-at-requires
 content-at-requires c κs = search needs

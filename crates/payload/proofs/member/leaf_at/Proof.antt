@@ -1,13 +1,13 @@
--- `payload::read::leaf_at` meets its contract.
+-- `payload::member::leaf_at` meets its contract.
 -- Assumes nothing.
 use mathlib.Core.Path.{refl, sym, ap, _∙_}
 use native.Mathlib.Omega.{arith}
-use Rattle.payload.specs.declared.read.Member.the-variants.{Leaf, Struct}
+use Rattle.payload.specs.declared.member.Member.the-variants.{Leaf, Struct}
 use Rattle.wire.proofs.KindLaws.{size-small}
 use Rattle.payload.proofs.Walking.MemberLaws.{content-number, content-struct}
 use borrow.Author.Needs.{needs}
-use Rattle.payload.proofs.read.leaf_at.Statement.{statement}
-use Rattle.payload.proofs.read.leaf_at.Tie as tie
+use Rattle.payload.proofs.member.leaf_at.Statement.{statement}
+use Rattle.payload.proofs.member.leaf_at.Tie as tie
 
 kind-in-requires : tie.Need-kind-in-requires
 kind-in-requires c κs = search needs
