@@ -15,8 +15,25 @@ use Rattle.payload.specs.Promises.{
   NothingPast,
   InnerEnds,
   OneWriting,
+  CheckedReads,
+  FiveOutcomes,
+  FewRows,
+  AllRows,
+  RoomLast,
+  DoneExactly,
 }
 use Rattle.payload.specs.Settled.{WriteSettled}
+use Rattle.payload.specs.WriteWhen.{WriteVerdicts}
+use Rattle.payload.specs.Paths.{ReadByPaths}
+use Rattle.payload.specs.Demand3.{Demand3Holds, AbsentArrives}
+use Rattle.payload.specs.Demand3Cases.{Demand3Shown}
+use Rattle.payload.proofs.Writing.WriteWhen as verdicts
+use Rattle.payload.proofs.Writing.RoomLaws as rooms
+use Rattle.payload.proofs.Paths.Demand3 as paths
+use Rattle.payload.proofs.Paths.Demand3Cases as path-cases
+use Rattle.payload.proofs.Paths.ByPath as by-path
+use Rattle.payload.proofs.Rules.CheckLaws.{fits-tests}
+use Rattle.payload.proofs.Walking.ReadLaws.{checked-reading}
 use Rattle.payload.specs.Demand2.{Demand2Holds, Demand2Answered, CasesWritten, CasesBack}
 use Rattle.payload.proofs.Writing.WrittenLaws as settled
 use Rattle.payload.proofs.Round.Demand2 as demand
@@ -24,7 +41,7 @@ use Rattle.payload.proofs.Round.Demand2Cases as cases
 use Rattle.payload.proofs.Rules.TableLaws as table
 use Rattle.payload.proofs.Trees.Accepted.{accept-law}
 use Rattle.payload.proofs.Trees.Unique.{tree-unique}
-use Rattle.payload.proofs.Trees.Refusals.{reading-refused, reading-filled, reading-place, reading-inside, reading-shown}
+use Rattle.payload.proofs.Trees.Refusals.{reading-outcome, reading-size, reading-refused, reading-filled, reading-place, reading-inside, reading-shown}
 use Rattle.payload.proofs.Trees.Inner.{entered}
 
 pub table-decided : TableDecided
@@ -74,3 +91,36 @@ cases-written = cases.cases-written
 
 pub cases-back : CasesBack
 cases-back = cases.cases-back
+
+pub write-verdicts : WriteVerdicts
+write-verdicts = verdicts.write-verdicts
+
+pub demand-3 : Demand3Holds
+demand-3 = paths.demand-3
+
+pub absent-arrives : AbsentArrives
+absent-arrives = paths.absent-arrives
+
+pub demand3-shown : Demand3Shown
+demand3-shown = path-cases.demand3-shown
+
+pub read-by-paths : ReadByPaths
+read-by-paths = by-path.read-by-paths
+
+pub checked-reads : CheckedReads
+checked-reads = checked-reading
+
+pub five-outcomes : FiveOutcomes
+five-outcomes = reading-outcome
+
+pub few-rows : FewRows
+few-rows t e = fits-tests t e .few
+
+pub all-rows : AllRows
+all-rows = reading-size
+
+pub room-last : RoomLast
+room-last = rooms.room-last
+
+pub done-exactly : DoneExactly
+done-exactly = rooms.done-exactly

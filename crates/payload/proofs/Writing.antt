@@ -10,3 +10,5 @@ pub mod StoreLaws
 pub mod OutcomeLaws
 pub mod WriteLaws
 pub mod WrittenLaws
+pub mod RoomLaws
+pub mod WriteWhen

@@ -11,6 +11,7 @@ pub mod Moved
 pub mod Judging
 pub mod Writing
 pub mod Settled
+pub mod WriteWhen
 pub mod Parts
 pub mod Columns
 pub mod Sizes

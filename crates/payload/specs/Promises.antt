@@ -1,25 +1,30 @@
 -- What this crate promises, a statement under each sentence. The proofs cite them in proofs/Promises.antt, in the same order.
 use mathlib.Core.Path.{_≡_}
 use Prim.Native.Nat.{ℕ, _+_, _≤_}
-use mathlib.Core.Bool.{true}
+use mathlib.Core.Bool.{Bool, true}
 use mathlib.Core.Option.{some}
 use mathlib.Core.List.{List}
 use lib.ListN.{length, drop, getD, replicate}
+use lib.Dec.{ltb}
 use Rattle.wire.specs.Choose.{pick}
-use Rattle.wire.specs.declared.verdict.Verdict.the-variants.{Accepted}
+use Rattle.wire.specs.declared.verdict.Verdict.the-variants.{Accepted, Room}
 use Rattle.payload.specs.declared.table.TypeRow.{TypeRow}
 use Rattle.payload.specs.declared.table.Table.{Table}
 use Rattle.payload.specs.declared.row.Row.{Row}
 use Rattle.payload.specs.declared.read.Reading.{Reading}
 use Rattle.payload.specs.declared.write.Written.{Written}
 use Rattle.payload.specs.Table.{find, identsDiffer, typeRows, tableFits, TableRules, RowOf}
+use Rattle.payload.specs.Cells.{tableIn, Checked}
 use Rattle.payload.specs.Row.{absentRow}
-use Rattle.payload.specs.Reading.{enter, stepOf, readingOf}
-use Rattle.payload.specs.Writing.{writingOf, outputOf}
+use Rattle.payload.specs.Reading.{enter, stepOf, payloadMost, checkedOf, readingOf}
+use Rattle.payload.specs.Writing as writing
+use Rattle.payload.specs.Writing.{refused, done, outcomeOf, writingOf, outputOf}
+use Rattle.payload.specs.Settled as settled
+use Rattle.payload.specs.Settled.{payloadOf}
 use Rattle.payload.specs.Tree.{Members, bytesOf}
 use Rattle.payload.specs.Formed.{Formed}
 use Rattle.payload.specs.Bounds.{ByWalk, RunIn, Entered}
-use Rattle.payload.specs.Outcome.{changesNone, AcceptLaw}
+use Rattle.payload.specs.Outcome.{changesNone, Outcome, AcceptLaw}
 
 -- P1. A table passes the test exactly when it keeps the rules.
 pub record TableIs (t : Table) : Type 0 where
@@ -88,3 +93,47 @@ OneWriting = (rows : List Row) (room : ℕ) (t : Table) (buf old : List ℕ) (r 
 -- what it made is the bytes of the tree of present rows: Demand2Holds and, by the writer's answer, Demand2Answered, in specs/Demand2.antt.
 
 -- P13. Not empty: the writer accepts the rows of cases a, c and m and gives their bytes: CasesWritten and CasesBack, in specs/Demand2.antt.
+
+-- P14. When a writing has each verdict, in the paper's order: WriteVerdicts, in specs/WriteWhen.antt.
+
+-- P15. Two valid tables of one width that agree where they meet; any payload that the writer makes from one, its members in any order at each
+-- level: the reader under the other shows each member as written and absent where none was, or gives 27 exactly when a member that it requires
+-- is absent at a present level: Demand3Holds and, of what was left out, AbsentArrives, in specs/Demand3.antt; a closed instance in
+-- specs/Demand3Cases.antt. The law behind it, for every tree of members: ReadByPaths, in specs/Paths.antt.
+
+-- ---- what the layer above relies on
+
+-- P16. Under a checked table, with room enough, the answer of the walk over the table's cells is the reading.
+abbrev pub CheckedReads : Type 0
+CheckedReads = (p : List ℕ) (t : Table) (room : ℕ) (cells : List ℕ) (fits : Bool) → Checked t cells fits → fits ≡ true → t .count ≤ room
+    → checkedOf p (tableIn (t .count) cells) (t .count) (t .width) ≡ readingOf p t room
+
+-- P17. Every reading is one of the five outcomes.
+abbrev pub FiveOutcomes : Type 0
+FiveOutcomes = (p : List ℕ) (t : Table) (room : ℕ) → Outcome p t room (readingOf p t room)
+
+-- P18. A table that keeps its rules has 64 rows at most, and a reading has 64.
+abbrev pub FewRows : Type 0
+FewRows = (t : Table) → tableFits t ≡ true → t .count ≤ 64
+
+abbrev pub AllRows : Type 0
+AllRows = (p : List ℕ) (t : Table) (room : ℕ) → length (readingOf p t room .rows) ≡ 64
+
+-- P19. The output's room is asked last: no payload that is written has more than 1,400 bytes, and with less room the outcome is the same, or 2
+-- where the payload is longer than the room.
+abbrev pub within : ℕ → writing.Outcome → writing.Outcome
+within space (refused v) = refused v
+within space (done p) = pick (ltb space (length p)) (refused Room) (done p)
+
+abbrev pub RoomLast : Type 0
+RoomLast = (rows : List Row) (room : ℕ) (t : Table) (buf : List ℕ) (space : ℕ)
+    → outcomeOf rows room t buf space ≡ within space (outcomeOf rows room t buf payloadMost)
+
+-- P20. A writing gives a payload exactly when every test is met, and the payload is that of the rows. No refusal has verdict 0.
+pub record DoneLaw (rows : List Row) (room : ℕ) (t : Table) (buf : List ℕ) (space : ℕ) : Type 0 where
+  pub done-meets : (p : List ℕ) → outcomeOf rows room t buf space ≡ done p → settled.Accepts rows room t buf space × (p ≡ payloadOf t buf rows)
+  pub meets-done : settled.Accepts rows room t buf space → outcomeOf rows room t buf space ≡ done (payloadOf t buf rows)
+  pub refuses-truly : outcomeOf rows room t buf space ≡ refused Accepted → ⊥
+
+abbrev pub DoneExactly : Type 0
+DoneExactly = (rows : List Row) (room : ℕ) (t : Table) (buf : List ℕ) (space : ℕ) → DoneLaw rows room t buf space

@@ -76,10 +76,11 @@ module _ (p : List ℕ) (t : Table) (room : ℕ) (cells : List ℕ) (fits : Bool
     unfolding readingOf
     reading-checked h d = record { is = d .is ∙ rw (k .filled e .rows-are, sym (k .answer) ∙ e, le-ltb room (t .count) h); fine = d .fine }
 
-    -- the same of a reading that was made
-    pub checked-reading : t .count ≤ room → checkedOf p (tableIn (t .count) cells) (t .count) (t .width) ≡ readingOf p t room
-    unfolding readingOf
-    checked-reading h = rw (k .filled e .rows-are, sym (k .answer) ∙ e, le-ltb room (t .count) h)
+-- the same of a reading that was made
+pub checked-reading : (p : List ℕ) (t : Table) (room : ℕ) (cells : List ℕ) (fits : Bool) → Checked t cells fits → fits ≡ true → t .count ≤ room
+    → checkedOf p (tableIn (t .count) cells) (t .count) (t .width) ≡ readingOf p t room
+unfolding readingOf
+checked-reading p t room cells fits k e h = rw (k .filled e .rows-are, sym (k .answer) ∙ e, le-ltb room (t .count) h)
 
 -- ---- 17, then the walk
 
