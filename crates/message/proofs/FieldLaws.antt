@@ -1,0 +1,104 @@
+-- The Message Types are the five; each header field is the number of its bytes; and a header's bytes hold each field at its place.
+-- Assumes nothing.
+use mathlib.Core.Path.{_≡_, refl, sym, ap, _∙_}
+use Prim.Native.Nat.{ℕ, suc, _+_, _*_, _^_, _≤_, _<_}
+use native.Mathlib.Omega.{arith}
+use mathlib.Core.Bool.{Bool, true, false}
+use mathlib.Core.Logic.{_⊎_, inl, inr}
+use mathlib.Core.List.{List, [], _∷_, _++_}
+use lib.ListN.{length, getD}
+use lib.Seq.{slice, slice-cons, slice-empty}
+use lib.Dec.{eqb}
+use borrow.Author.Tests.{eqb-true}
+use Rattle.wire.specs.Choose.{or}
+use Rattle.wire.specs.Number.{big, numberOf, numberBytes}
+use Rattle.wire.proofs.NumberLaws.{number-back}
+use Rattle.message.specs.declared.header.Header.{Header}
+use Rattle.message.specs.MessageType.{request, requestNoReturn, notification, response, error, isOne}
+use Rattle.message.specs.Header.{headerLen, fieldAt, headerBytes, Fitting}
+use Rattle.message.specs.Promises.{OneLaw, FieldLaw, HeaderLaw}
+use Rattle.message.proofs.HeaderLaws.{byte-field}
+
+-- A number passes the membership test exactly when it is one of the five.
+pub one-law : OneLaw
+unfolding isOne
+one-law x = (found (eqb x request) (eqb x requestNoReturn) (eqb x notification) (eqb x response) refl refl refl refl, back)
+  where
+    found : (a b c d : Bool) → eqb x request ≡ a → eqb x requestNoReturn ≡ b → eqb x notification ≡ c → eqb x response ≡ d
+        → or a (or b (or c (or d (eqb x error)))) ≡ true
+        → (x ≡ request) ⊎ (x ≡ requestNoReturn) ⊎ (x ≡ notification) ⊎ (x ≡ response) ⊎ (x ≡ error)
+    found true b c d ea eb ec ed t = inl (eqb-true x request ea)
+    found false true c d ea eb ec ed t = inr (inl (eqb-true x requestNoReturn eb))
+    found false false true d ea eb ec ed t = inr (inr (inl (eqb-true x notification ec)))
+    found false false false true ea eb ec ed t = inr (inr (inr (inl (eqb-true x response ed))))
+    found false false false false ea eb ec ed t = inr (inr (inr (inr (eqb-true x error t))))
+
+    back : (x ≡ request) ⊎ (x ≡ requestNoReturn) ⊎ (x ≡ notification) ⊎ (x ≡ response) ⊎ (x ≡ error) → isOne x ≡ true
+    back (inl e) = rw e
+    back (inr (inl e)) = rw e
+    back (inr (inr (inl e))) = rw e
+    back (inr (inr (inr (inl e)))) = rw e
+    back (inr (inr (inr (inr e)))) = rw e
+
+-- ---- fields by byte number
+
+module _ (at : ℕ) (d : List ℕ) where
+  two-field : at + 2 ≤ length d → fieldAt at 2 d ≡ getD d at 0 * 256 + getD d (suc at) 0
+  unfolding fieldAt numberOf
+  two-field h =
+      let s : at + 2 ≡ suc (suc at) = omega arith in
+      rw (
+        s,
+        slice-cons at (suc (suc at)) d 0 (omega arith) (omega arith),
+        slice-cons (suc at) (suc (suc at)) d 0 (omega arith) (omega arith),
+        slice-empty (suc (suc at)) d
+      ) (omega arith)
+
+  four-field : at + 4 ≤ length d
+      → fieldAt at 4 d ≡ ((getD d at 0 * 256 + getD d (suc at) 0) * 256 + getD d (suc (suc at)) 0) * 256 + getD d (suc (suc (suc at))) 0
+  unfolding fieldAt numberOf
+  four-field h =
+      let end = suc (suc (suc (suc at))) in
+      let s : at + 4 ≡ end = omega arith in
+      rw (
+        s,
+        slice-cons at end d 0 (omega arith) (omega arith),
+        slice-cons (suc at) end d 0 (omega arith) (omega arith),
+        slice-cons (suc (suc at)) end d 0 (omega arith) (omega arith),
+        slice-cons (suc (suc (suc at))) end d 0 (omega arith) (omega arith),
+        slice-empty end d
+      ) (omega arith)
+
+-- Each field is the number of its bytes.
+pub field-law : (d : List ℕ) → headerLen ≤ length d → FieldLaw d
+field-law d h =
+    record {
+      service-is = two-field 0 d (omega arith);
+      method-is = two-field 2 d (omega arith);
+      length-is = four-field 4 d (omega arith);
+      client-is = two-field 8 d (omega arith);
+      session-is = two-field 10 d (omega arith);
+      version-is = byte-field 12 d (omega arith);
+      interface-is = byte-field 13 d (omega arith);
+      type-is = byte-field 14 d (omega arith);
+      code-is = byte-field 15 d (omega arith);
+    }
+
+-- ---- a header's bytes
+
+-- A header's bytes are 16, and each field is found at its place whatever follows.
+pub header-law : (h : Header) (n : ℕ) → Fitting h → 8 + n < 256 ^ 4 → HeaderLaw h n
+unfolding fieldAt headerBytes numberBytes
+header-law h n f l =
+    record {
+      size = refl;
+      service-back = λ x. number-back 2 (h .service .0) (f .service-in);
+      method-back = λ x. number-back 2 (h .method .0) (f .method-in);
+      length-back = λ x. number-back 4 (8 + n) l;
+      client-back = λ x. number-back 2 (h .client .0) (f .client-in);
+      session-back = λ x. number-back 2 (h .session .0) (f .session-in);
+      version-back = λ x. number-back 1 1 (omega arith);
+      interface-back = λ x. number-back 1 (h .interface) (f .interface-in);
+      type-back = λ x. number-back 1 (h .kind .0) (f .kind-in);
+      code-back = λ x. number-back 1 (h .code) (f .code-in);
+    }

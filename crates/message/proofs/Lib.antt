@@ -1,0 +1,10 @@
+mod Slices
+mod HeaderLaws
+mod FieldLaws
+mod ReadLaws
+mod SendLaws
+mod Given
+mod Demand2
+mod SentLaws
+mod SentWhen
+mod SentCases

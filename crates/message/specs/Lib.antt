@@ -1,0 +1,9 @@
+pub mod MessageType
+pub mod Header
+pub mod Part
+pub mod Reading
+pub mod Writing
+pub mod Sent
+pub mod SentWhen
+pub mod Demand2
+pub mod Promises

@@ -1,0 +1,179 @@
+// Reading a message: the table and the room, the header, then the payload.
+
+ghost use mathlib.Core.Path.{_≡_};
+ghost use Prim.Native.Nat.{_+_, _≤_};
+ghost use lib.ListN.{length};
+ghost use Rattle.payload.specs.Reading.{cleared};
+ghost use Rattle.message.specs.Header.{fieldAt};
+ghost use Rattle.message.specs.Reading.{lengthFails, headerVerdict, payloadShown, headAt, unheaded, messageOf};
+use super::header;
+use super::id::ClientId;
+use super::id::MethodId;
+use super::id::ServiceId;
+use super::id::SessionId;
+use super::message_type::MessageType;
+use super::part::Part;
+use payload::read;
+use payload::read::Reading;
+use payload::table;
+use payload::table::Table;
+use wire::number;
+use wire::verdict::Verdict;
+
+// What the caller expects of a header.
+pub struct Expected {
+    pub service: ServiceId,
+    pub method: MethodId,
+    pub interface: u8,
+    pub kind: MessageType,
+}
+
+// What a header hands on as found, and the parts of the datagram. `found_code` is the header's Return Code; the verdict's is another thing.
+pub struct Head {
+    pub client: ClientId,
+    pub session: SessionId,
+    pub found_code: u8,
+    pub payload: Part,
+    pub rest: Part,
+}
+
+// The answer to a message: what the header hands on, and the payload's reading, whose verdict is the message's.
+pub struct MessageReading {
+    pub head: Head,
+    pub reading: Reading,
+}
+
+// The number of the two bytes at a place.
+fn two_at(d: &[u8], at: usize) -> u16
+    requires { ⌜ at + 2 ≤ length (now d) ⌝ }
+    ensures { λ r. ⌜ r ≡ fieldAt at 2 (now (d .entry)) ⌝ }
+{
+    number::read_number(d, at, 2) as u16
+}
+
+// Whether a Length is below 8, or the message past the datagram's end; what is left of the datagram is compared, so that no sum can wrap.
+fn length_fails(length: u64, size: usize) -> bool
+    requires { ⌜ 16 ≤ size ⌝ }
+    ensures { λ r. ⌜ r ≡ lengthFails length size ⌝ }
+{
+    if length < 8 {
+        return true;
+    }
+    ((size - 8) as u64) < length
+}
+
+// What a header answers to the caller's expectation, in the verdicts' order.
+fn header_verdict(d: &[u8], e: Expected) -> Verdict
+    requires { ⌜ 16 ≤ length (now d) ⌝ }
+    ensures { λ r. ⌜ r ≡ headerVerdict (now (d .entry)) e ⌝ }
+{
+    if d[header::VERSION_AT] != header::VERSION {
+        return Verdict::Protocol;
+    }
+    if two_at(d, header::SERVICE_AT) != e.service.0 {
+        return Verdict::Service;
+    }
+    if d[header::INTERFACE_AT] != e.interface {
+        return Verdict::Interface;
+    }
+    if two_at(d, header::METHOD_AT) != e.method.0 {
+        return Verdict::Method;
+    }
+    if d[header::TYPE_AT] != e.kind.0 {
+        return Verdict::MessageType;
+    }
+    Verdict::Accepted
+}
+
+// The payload's part of a message that ends at `end`: none is given after 12 to 17.
+fn payload_shown(why: Verdict, end: usize) -> Part
+    requires { ⌜ 16 ≤ end ⌝ }
+    ensures { λ r. ⌜ r ≡ payloadShown why end ⌝ }
+{
+    let n = why.number();
+    if n < 12 {
+        return Part {
+            at: header::LEN,
+            len: end - header::LEN,
+        };
+    }
+    if n < 18 {
+        return Part { at: 0, len: 0 };
+    }
+    Part {
+        at: header::LEN,
+        len: end - header::LEN,
+    }
+}
+
+// What the header of a message that ends at `end` hands on, with the parts that a verdict gives.
+fn head_at(d: &[u8], end: usize, why: Verdict) -> Head
+    requires { ⌜ (16 ≤ end) × (end ≤ length (now d)) ⌝ }
+    ensures { λ r. ⌜ r ≡ headAt (now (d .entry)) end why ⌝ }
+{
+    Head {
+        client: ClientId(two_at(d, header::CLIENT_AT)),
+        session: SessionId(two_at(d, header::SESSION_AT)),
+        found_code: d[header::CODE_AT],
+        payload: payload_shown(why, end),
+        rest: Part {
+            at: end,
+            len: d.len() - end,
+        },
+    }
+}
+
+// A refusal before the header is looked at: nothing is handed on, and both parts are empty.
+fn without_header(why: Verdict, filled: usize) -> MessageReading
+    ensures { λ r. ⌜ r ≡ unheaded (cleared filled why 0) ⌝ }
+{
+    MessageReading {
+        head: Head {
+            client: ClientId(0),
+            session: SessionId(0),
+            found_code: 0,
+            payload: Part { at: 0, len: 0 },
+            rest: Part { at: 0, len: 0 },
+        },
+        reading: read::refusal(why, 0, filled),
+    }
+}
+
+// Reads the message at a datagram's start, where `room` value rows are lent. Any datagram, expectation, table and number of rows gets one
+// answer, by value.
+pub fn read_by_value(d: &[u8], e: Expected, t: Table, room: usize) -> MessageReading
+    ensures { λ r. ⌜ r ≡ messageOf (now (d .entry)) e t room ⌝ }
+{
+    if !e.kind.is_one() {
+        return without_header(Verdict::Table, 0);
+    }
+    let mut cells = [0u64; 64];
+    if !table::checked(t, &mut cells) {
+        return without_header(Verdict::Table, 0);
+    }
+    let n = t.count;
+    if room < n {
+        return without_header(Verdict::Room, 0);
+    }
+    if d.len() < header::LEN {
+        return without_header(Verdict::Short, n);
+    }
+    let length = number::read_number(d, header::LENGTH_AT, 4);
+    if length_fails(length, d.len()) {
+        return without_header(Verdict::Length, n);
+    }
+    let end = length as usize + 8;
+    let why = header_verdict(d, e);
+    if why.number() != 0 {
+        return MessageReading {
+            head: head_at(d, end, why),
+            reading: read::refusal(why, 0, n),
+        };
+    }
+    let reading = read::read_checked(&d[header::LEN..end], &cells, n, t.width);
+    let given = reading.verdict;
+    MessageReading {
+        head: head_at(d, end, given),
+        reading: reading,
+    }
+}
