@@ -48,33 +48,33 @@ use Rattle.message.proofs.Given.{Given, sending-given, given-sending, a
 -- ---- a message, with x behind it
 
 module _ (h : Header) (f : Fitting h) (p : List ℕ) (few : length p ≤ payloadMost) where
-  m : List ℕ
+  unfoldable pub m : List ℕ
   m = messageBytes h p
 
   m-is : m ≡ messageBytes h p
   unfolding m
   m-is = refl
 
-  fields : HeaderLaw h (length p)
+  pub fields : HeaderLaw h (length p)
   fields = header-law h (length p) f (omega arith)
 
   body-is : bodyOf m ≡ p
   unfolding m messageBytes
   body-is = drop-at (headerBytes h (length p)) p headerLen (header-size h (length p))
 
-  size-is : length m ≡ headerLen + length p
+  pub size-is : length m ≡ headerLen + length p
   unfolding m
   size-is = message-size h p
 
   module _ (x : List ℕ) where
-    d : List ℕ
+    unfoldable pub d : List ℕ
     d = m ++ x
 
-    d-is : d ≡ headerBytes h (length p) ++ (p ++ x)
+    pub d-is : d ≡ headerBytes h (length p) ++ (p ++ x)
     unfolding d m messageBytes
     d-is = append-assoc (headerBytes h (length p)) p x
 
-    length-is : length d ≡ headerLen + length p + length x
+    pub length-is : length d ≡ headerLen + length p + length x
     unfolding d
     length-is = length-append m x ∙ omega (arith, size-is)
 
@@ -84,7 +84,7 @@ module _ (h : Header) (f : Fitting h) (p : List ℕ) (few : length p ≤ payload
     length-field : lengthOf d ≡ 8 + length p
     length-field = ap lengthOf d-is ∙ fields .length-back (p ++ x)
 
-    end-is : endOf d ≡ headerLen + length p
+    pub end-is : endOf d ≡ headerLen + length p
     end-is = omega (arith, length-field)
 
     cut : take (length p) (drop headerLen d) ≡ p
@@ -109,7 +109,7 @@ module _ (h : Header) (f : Fitting h) (p : List ℕ) (few : length p ≤ payload
 
     module _ (t : Table) (one : isOne (h .kind .0) ≡ true) (fits : tableFits t ≡ true) (room : ℕ) (enough : t .count ≤ room) where
       -- its reading is the payload's, behind its header
-      read-is : messageOf d (expectedOf h) t room ≡ headed d (readingOf p t room)
+      pub read-is : messageOf d (expectedOf h) t room ≡ headed d (readingOf p t room)
       unfolding messageOf headedOf
       read-is =
           rw (
@@ -122,14 +122,14 @@ module _ (h : Header) (f : Fitting h) (p : List ℕ) (few : length p ≤ payload
             payload-is,
           )
 
-    end-size : endOf d ≡ length m
+    pub end-size : endOf d ≡ length m
     end-size = end-is ∙ sym size-is
 
     head-payload : payloadShown Accepted (endOf d) ≡ part headerLen (length m - headerLen)
     unfolding payloadShown
     head-payload = rw end-size
 
-    head-rest : part (endOf d) (length d - endOf d) ≡ part (length m) (length x)
+    pub head-rest : part (endOf d) (length d - endOf d) ≡ part (length m) (length x)
     head-rest =
         let z : length d - length m ≡ length x = omega (arith, length-is, size-is) in
         rw (end-size, z)
@@ -139,7 +139,7 @@ module _ (h : Header) (f : Fitting h) (p : List ℕ) (few : length p ≤ payload
         let z : headerLen + (length m - headerLen) - headerLen ≡ length p = omega (arith, size-is) in
         sym (cut-part d (part headerLen (length m - headerLen)) (omega (arith, size-is, length-is))) ∙ rw (z, cut, body-is)
 
-    shown-rest : partOf d (part (length m) (length x)) ≡ x
+    pub shown-rest : partOf d (part (length m) (length x)) ≡ x
     unfolding d
     shown-rest =
         let z : length m + length x - length m ≡ length x = omega arith in

@@ -16,11 +16,11 @@ use Rattle.wire.proofs.NumberLaws.{number-back}
 use Rattle.message.specs.declared.header.Header.{Header}
 use Rattle.message.specs.MessageType.{request, requestNoReturn, notification, response, error, isOne}
 use Rattle.message.specs.Header.{headerLen, fieldAt, headerBytes, Fitting}
-use Rattle.message.specs.Promises.{OneLaw, FieldLaw, HeaderLaw}
+use Rattle.message.specs.Promises.{OneOfFive, FieldsByByte, HeaderReadBack}
 use Rattle.message.proofs.HeaderLaws.{byte-field}
 
 -- A number passes the membership test exactly when it is one of the five.
-pub one-law : OneLaw
+pub one-law : OneOfFive
 unfolding isOne
 one-law x = (found (eqb x request) (eqb x requestNoReturn) (eqb x notification) (eqb x response) refl refl refl refl, back)
   where
@@ -51,7 +51,7 @@ module _ (at : ℕ) (d : List ℕ) where
         s,
         slice-cons at (suc (suc at)) d 0 (omega arith) (omega arith),
         slice-cons (suc at) (suc (suc at)) d 0 (omega arith) (omega arith),
-        slice-empty (suc (suc at)) d
+        slice-empty (suc (suc at)) d,
       ) (omega arith)
 
   four-field : at + 4 ≤ length d
@@ -66,11 +66,11 @@ module _ (at : ℕ) (d : List ℕ) where
         slice-cons (suc at) end d 0 (omega arith) (omega arith),
         slice-cons (suc (suc at)) end d 0 (omega arith) (omega arith),
         slice-cons (suc (suc (suc at))) end d 0 (omega arith) (omega arith),
-        slice-empty end d
+        slice-empty end d,
       ) (omega arith)
 
 -- Each field is the number of its bytes.
-pub field-law : (d : List ℕ) → headerLen ≤ length d → FieldLaw d
+pub field-law : FieldsByByte
 field-law d h =
     record {
       service-is = two-field 0 d (omega arith);
@@ -87,7 +87,7 @@ field-law d h =
 -- ---- a header's bytes
 
 -- A header's bytes are 16, and each field is found at its place whatever follows.
-pub header-law : (h : Header) (n : ℕ) → Fitting h → 8 + n < 256 ^ 4 → HeaderLaw h n
+pub header-law : HeaderReadBack
 unfolding fieldAt headerBytes numberBytes
 header-law h n f l =
     record {

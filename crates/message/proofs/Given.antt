@@ -20,7 +20,7 @@ use Rattle.payload.proofs.Promises.{done-exactly}
 use Rattle.message.specs.declared.header.Header.{Header}
 use Rattle.message.specs.MessageType.{isOne}
 use Rattle.message.specs.Header.{headerLen}
-use Rattle.message.specs.Writing.{messageBytes, framed, sendingOf, sentOf, sentOutput}
+use Rattle.message.specs.Writing.{messageBytes, framed, sendingOf, messageWriting, messageOutput}
 use Rattle.message.proofs.SendLaws.{message-size, part-front}
 
 never {ℓ} : {X : Type ℓ} {v : Verdict} {m : List ℕ} → refused v ≡ done m → X
@@ -80,9 +80,9 @@ module _ (h : Header) (rows : List Row) (room : ℕ) (t : Table) (buf : List ℕ
 
 module _ (h : Header) (rows : List Row) (room : ℕ) (t : Table) (buf old : List ℕ) where
   -- an accepted writing leaves the message at the output's start
-  pub answer-sending : sentOf h rows room t buf (length old) .verdict ≡ Accepted
-      → sendingOf h rows room t buf (length old) ≡ done (take (sentOf h rows room t buf (length old) .len) (sentOutput h rows room t buf old))
-  unfolding sentOf sentOutput answerIs outputIs
+  pub answer-sending : messageWriting h rows room t buf (length old) .verdict ≡ Accepted
+      → sendingOf h rows room t buf (length old) ≡ done (take (messageWriting h rows room t buf (length old) .len) (messageOutput h rows room t buf old))
+  unfolding messageWriting messageOutput answerIs outputIs
   answer-sending = go (sendingOf h rows room t buf (length old)) refl
     where
       go : (o : Outcome) → sendingOf h rows room t buf (length old) ≡ o → answerIs o .verdict ≡ Accepted

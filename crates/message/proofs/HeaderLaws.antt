@@ -90,7 +90,7 @@ module _ (d : List ℕ) (e : Expected) where
           rw (
             eq-eqb (versionOf d) protocolVersion version,
             eq-eqb (serviceOf d) (e .service .0) service,
-            ne-eqb (interfaceOf d) (e .interface) n
+            ne-eqb (interfaceOf d) (e .interface) n,
           )
 
       module _ (interface : interfaceOf d ≡ e .interface) where
@@ -101,7 +101,7 @@ module _ (d : List ℕ) (e : Expected) where
               eq-eqb (versionOf d) protocolVersion version,
               eq-eqb (serviceOf d) (e .service .0) service,
               eq-eqb (interfaceOf d) (e .interface) interface,
-              ne-eqb (methodOf d) (e .method .0) n
+              ne-eqb (methodOf d) (e .method .0) n,
             )
 
         module _ (method : methodOf d ≡ e .method .0) where
@@ -113,7 +113,7 @@ module _ (d : List ℕ) (e : Expected) where
                 eq-eqb (serviceOf d) (e .service .0) service,
                 eq-eqb (interfaceOf d) (e .interface) interface,
                 eq-eqb (methodOf d) (e .method .0) method,
-                ne-eqb (typeOf d) (e .kind .0) n
+                ne-eqb (typeOf d) (e .kind .0) n,
               )
 
           pub verdict-none : typeOf d ≡ e .kind .0 → headerVerdict d e ≡ Accepted
@@ -124,7 +124,7 @@ module _ (d : List ℕ) (e : Expected) where
                 eq-eqb (serviceOf d) (e .service .0) service,
                 eq-eqb (interfaceOf d) (e .interface) interface,
                 eq-eqb (methodOf d) (e .method .0) method,
-                eq-eqb (typeOf d) (e .kind .0) kind
+                eq-eqb (typeOf d) (e .kind .0) kind,
               )
 
 -- ---- the same, by the bytes and numbers that the code compares

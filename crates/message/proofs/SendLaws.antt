@@ -26,7 +26,7 @@ use Rattle.payload.proofs.Promises.{room-last, done-exactly, write-settled}
 use Rattle.message.specs.declared.header.Header.{Header}
 use Rattle.message.specs.MessageType.{isOne}
 use Rattle.message.specs.Header.{headerLen, headerBytes}
-use Rattle.message.specs.Writing.{messageBytes, framed, sendingOf, sentOf, sentOutput}
+use Rattle.message.specs.Writing.{messageBytes, framed, sendingOf, messageWriting, messageOutput}
 
 -- ---- the header's nine stores
 
@@ -179,12 +179,12 @@ no-bytes (x ∷ xs) e = absurd (omega arith)
 module _ (h : Header) (rows : List Row) (room : ℕ) (t : Table) (buf old : List ℕ) where
   -- 1
   module _ (one : Bool) (ke : one ≡ isOne (h .kind .0)) (k : one ≡ false) where
-    pub kind-answer : (w : Written) → w ≡ answerIs (refused NoTable) → w ≡ sentOf h rows room t buf (length old)
-    unfolding sentOf sendingOf
+    pub kind-answer : (w : Written) → w ≡ answerIs (refused NoTable) → w ≡ messageWriting h rows room t buf (length old)
+    unfolding messageWriting sendingOf
     kind-answer w e = e ∙ rw (sym ke ∙ k)
 
-    pub kind-output : old ≡ sentOutput h rows room t buf old
-    unfolding sentOutput sendingOf outputIs
+    pub kind-output : old ≡ messageOutput h rows room t buf old
+    unfolding messageOutput sendingOf outputIs
     kind-output = rw (sym ke ∙ k)
 
   module _ (one : Bool) (ke : one ≡ isOne (h .kind .0)) (k : one ≡ true) where
@@ -199,16 +199,16 @@ module _ (h : Header) (rows : List Row) (room : ℕ) (t : Table) (buf old : List
           rw (we, none, room-last rows room t buf 0)
           (short-by h old s (outcomeOf rows room t buf payloadMost) (done-exactly rows room t buf payloadMost .refuses-truly))
 
-      pub short-room : verdictNumber (w .verdict) ≡ 0 → (r : Written) → r ≡ answerIs (refused Room) → r ≡ sentOf h rows room t buf (length old)
-      unfolding sentOf
+      pub short-room : verdictNumber (w .verdict) ≡ 0 → (r : Written) → r ≡ answerIs (refused Room) → r ≡ messageWriting h rows room t buf (length old)
+      unfolding messageWriting
       short-room z r e = e ∙ short .no-room z ∙ rw sending-is
 
-      pub short-answer : (verdictNumber (w .verdict) ≡ 0 → ⊥) → w ≡ sentOf h rows room t buf (length old)
-      unfolding sentOf
+      pub short-answer : (verdictNumber (w .verdict) ≡ 0 → ⊥) → w ≡ messageWriting h rows room t buf (length old)
+      unfolding messageWriting
       short-answer z = short .same-answer z ∙ rw sending-is
 
-      pub short-output : (part : List ℕ) → part ≡ outputOf rows room t buf [] → part ++ old ≡ sentOutput h rows room t buf old
-      unfolding sentOutput
+      pub short-output : (part : List ℕ) → part ≡ outputOf rows room t buf [] → part ++ old ≡ messageOutput h rows room t buf old
+      unfolding messageOutput
       short-output part e =
           rw (no-bytes part (ap length e ∙ write-settled rows room t buf [] .same-length)) (short .unchanged ∙ rw sending-is)
 
@@ -221,13 +221,13 @@ module _ (h : Header) (rows : List Row) (room : ℕ) (t : Table) (buf old : List
           rw (we, pe, whole-part old, length-drop headerLen old, room-last rows room t buf (length old - headerLen))
           (long-by h old s (outcomeOf rows room t buf payloadMost) (done-exactly rows room t buf payloadMost .refuses-truly))
 
-      pub long-answer : (verdictNumber (w .verdict) ≡ 0 → ⊥) → w ≡ sentOf h rows room t buf (length old)
-      unfolding sentOf
+      pub long-answer : (verdictNumber (w .verdict) ≡ 0 → ⊥) → w ≡ messageWriting h rows room t buf (length old)
+      unfolding messageWriting
       long-answer z = long .same-answer z ∙ rw sending-is
 
       pub long-output : (verdictNumber (w .verdict) ≡ 0 → ⊥)
-          → take headerLen old ++ (part ++ drop (length old - headerLen) (drop headerLen old)) ≡ sentOutput h rows room t buf old
-      unfolding sentOutput
+          → take headerLen old ++ (part ++ drop (length old - headerLen) (drop headerLen old)) ≡ messageOutput h rows room t buf old
+      unfolding messageOutput
       long-output z = rw (long .unchanged z .0) (part-back old ∙ long .unchanged z .1 ∙ rw sending-is)
 
       module _ (z : verdictNumber (w .verdict) ≡ 0) where
@@ -237,8 +237,8 @@ module _ (h : Header) (rows : List Row) (room : ℕ) (t : Table) (buf old : List
             let c = long .carried z in
             (rw we (write-settled rows room t buf (take (length old - headerLen) (drop headerLen old)) .most), omega (arith, c .len-is, c .fits))
 
-        pub done-answer : record { verdict = Accepted; len = headerLen + w .len } ≡ sentOf h rows room t buf (length old)
-        unfolding sentOf answerIs
+        pub done-answer : record { verdict = Accepted; len = headerLen + w .len } ≡ messageWriting h rows room t buf (length old)
+        unfolding messageWriting answerIs
         done-answer =
             let c = long .carried z in
             ap (λ (n : ℕ). record { verdict = Accepted; len = headerLen + n }) (c .len-is)
@@ -246,8 +246,8 @@ module _ (h : Header) (rows : List Row) (room : ℕ) (t : Table) (buf old : List
 
         pub done-output : (after : List ℕ)
             → after ≡ sets (take headerLen old ++ (part ++ drop (length old - headerLen) (drop headerLen old))) 0 (headerBytes h (w .len))
-            → after ≡ sentOutput h rows room t buf old
-        unfolding sentOutput outputIs behind
+            → after ≡ messageOutput h rows room t buf old
+        unfolding messageOutput outputIs behind
         done-output after e =
             let c = long .carried z in
             let back : List ℕ → List ℕ = λ q. take headerLen old ++ (q ++ drop (length old - headerLen) (drop headerLen old)) in

@@ -17,7 +17,7 @@ use Rattle.payload.specs.Settled.{payloadOf}
 use Rattle.payload.proofs.Promises.{done-exactly}
 use Rattle.message.specs.declared.header.Header.{Header}
 use Rattle.message.specs.Header.{headerLen, headerBytes, Fitting}
-use Rattle.message.specs.Writing.{messageBytes, sendingOf, sentOf, sentOutput}
+use Rattle.message.specs.Writing.{messageBytes, sendingOf, messageWriting, messageOutput}
 use Rattle.message.specs.Sent.{HeaderPlaces, Sends, SentSettled, OneSending}
 use Rattle.message.proofs.SendLaws.{header-size, message-size, part-front}
 use Rattle.message.proofs.Given.{sending-given, given-sending, sending-truly}
@@ -88,8 +88,8 @@ module _ (h : Header) (rows : List Row) (room : ℕ) (t : Table) (buf : List ℕ
       let z = ap length (g .1) ∙ message-size h (payloadOf t buf rows) in
       (omega (arith, z, g .0 .accepts .light), omega (arith, z, g .0 .fits))
 
-  meets : (space : ℕ) → sentOf h rows room t buf space .verdict ≡ Accepted → Sends h rows room t buf space
-  unfolding sentOf answerIs
+  meets : (space : ℕ) → messageWriting h rows room t buf space .verdict ≡ Accepted → Sends h rows room t buf space
+  unfolding messageWriting answerIs
   meets space = go (sendingOf h rows room t buf space) refl
     where
       go : (o : Outcome) → sendingOf h rows room t buf space ≡ o → answerIs o .verdict ≡ Accepted → Sends h rows room t buf space
@@ -97,32 +97,32 @@ module _ (h : Header) (rows : List Row) (room : ℕ) (t : Table) (buf : List ℕ
       go (done m) e q = given-sends space m e .0
 
   answered : (space : ℕ) → Sends h rows room t buf space
-      → sentOf h rows room t buf space ≡ record { verdict = Accepted; len = headerLen + length (payloadOf t buf rows) }
-  unfolding sentOf answerIs
+      → messageWriting h rows room t buf space ≡ record { verdict = Accepted; len = headerLen + length (payloadOf t buf rows) }
+  unfolding messageWriting answerIs
   answered space s = rw (sends-given space s, message-size h (payloadOf t buf rows))
 
   module _ (old : List ℕ) where
     output : Sends h rows room t buf (length old)
-        → sentOutput h rows room t buf old ≡ messageBytes h (payloadOf t buf rows) ++ drop (headerLen + length (payloadOf t buf rows)) old
-    unfolding sentOutput outputIs
+        → messageOutput h rows room t buf old ≡ messageBytes h (payloadOf t buf rows) ++ drop (headerLen + length (payloadOf t buf rows)) old
+    unfolding messageOutput outputIs
     output s =
         rw (sends-given (length old) s)
         (part-front old (messageBytes h (payloadOf t buf rows)) (omega (arith, message-size h (payloadOf t buf rows), s .fits))
         ∙ rw (message-size h (payloadOf t buf rows)))
 
     -- header, payload, and then the old bytes
-    output-parts : Sends h rows room t buf (length old) → sentOutput h rows room t buf old
+    output-parts : Sends h rows room t buf (length old) → messageOutput h rows room t buf old
         ≡ headerBytes h (length (payloadOf t buf rows)) ++ (payloadOf t buf rows ++ drop (headerLen + length (payloadOf t buf rows)) old)
     unfolding messageBytes
     output-parts s = output s ∙ append-assoc (headerBytes h (length (payloadOf t buf rows))) (payloadOf t buf rows) (drop (headerLen + length (payloadOf t buf rows)) old)
 
-    places : Fitting h → Sends h rows room t buf (length old) → HeaderPlaces h (length (payloadOf t buf rows)) (sentOutput h rows room t buf old)
+    places : Fitting h → Sends h rows room t buf (length old) → HeaderPlaces h (length (payloadOf t buf rows)) (messageOutput h rows room t buf old)
     places f s =
         rw (output-parts s)
         (header-places h (length (payloadOf t buf rows)) (payloadOf t buf rows ++ drop (headerLen + length (payloadOf t buf rows)) old) f (s .accepts .light))
 
     payload-bytes : Sends h rows room t buf (length old) → (i : ℕ) → i < length (payloadOf t buf rows)
-        → getD (sentOutput h rows room t buf old) (headerLen + i) 0 ≡ getD (payloadOf t buf rows) i 0
+        → getD (messageOutput h rows room t buf old) (headerLen + i) 0 ≡ getD (payloadOf t buf rows) i 0
     payload-bytes s i l =
         let hb = headerBytes h (length (payloadOf t buf rows)) in
         let rest = drop (headerLen + length (payloadOf t buf rows)) old in
@@ -130,33 +130,33 @@ module _ (h : Header) (rows : List Row) (room : ℕ) (t : Table) (buf : List ℕ
         rw (output-parts s, z)
         (getD-append-add hb (payloadOf t buf rows ++ rest) i 0 ∙ List·getD-append (payloadOf t buf rows) rest 0 i l)
 
-    kept : (sentOf h rows room t buf (length old) .verdict ≡ Accepted → ⊥)
-        → (sentOutput h rows room t buf old ≡ old) × (sentOf h rows room t buf (length old) .len ≡ 0)
-    unfolding sentOf sentOutput answerIs outputIs
+    kept : (messageWriting h rows room t buf (length old) .verdict ≡ Accepted → ⊥)
+        → (messageOutput h rows room t buf old ≡ old) × (messageWriting h rows room t buf (length old) .len ≡ 0)
+    unfolding messageWriting messageOutput answerIs outputIs
     kept = go (sendingOf h rows room t buf (length old))
       where
         go : (o : Outcome) → (answerIs o .verdict ≡ Accepted → ⊥) → (outputIs old o ≡ old) × (answerIs o .len ≡ 0)
         go (refused v) n = (refl, refl)
         go (done m) n = absurd (n refl)
 
-    sizes : (sentOf h rows room t buf (length old) .len ≤ headerLen + payloadMost) × (sentOf h rows room t buf (length old) .len ≤ length old)
-    unfolding sentOf answerIs
+    sizes : (messageWriting h rows room t buf (length old) .len ≤ headerLen + payloadMost) × (messageWriting h rows room t buf (length old) .len ≤ length old)
+    unfolding messageWriting answerIs
     sizes = go (sendingOf h rows room t buf (length old)) refl
       where
         go : (o : Outcome) → sendingOf h rows room t buf (length old) ≡ o → (answerIs o .len ≤ headerLen + payloadMost) × (answerIs o .len ≤ length old)
         go (refused v) e = (omega arith, omega arith)
         go (done m) e = given-size (length old) m e
 
-    same-length : length (sentOutput h rows room t buf old) ≡ length old
-    unfolding sentOutput outputIs
+    same-length : length (messageOutput h rows room t buf old) ≡ length old
+    unfolding messageOutput outputIs
     same-length = go (sendingOf h rows room t buf (length old))
       where
         go : (o : Outcome) → length (outputIs old o) ≡ length old
         go (refused v) = refl
         go (done m) = length-sets old 0 m
 
-    beyond : drop (sentOf h rows room t buf (length old) .len) (sentOutput h rows room t buf old) ≡ drop (sentOf h rows room t buf (length old) .len) old
-    unfolding sentOf sentOutput answerIs outputIs
+    beyond : drop (messageWriting h rows room t buf (length old) .len) (messageOutput h rows room t buf old) ≡ drop (messageWriting h rows room t buf (length old) .len) old
+    unfolding messageWriting messageOutput answerIs outputIs
     beyond = go (sendingOf h rows room t buf (length old)) refl
       where
         go : (o : Outcome) → sendingOf h rows room t buf (length old) ≡ o → drop (answerIs o .len) (outputIs old o) ≡ drop (answerIs o .len) old
@@ -165,7 +165,7 @@ module _ (h : Header) (rows : List Row) (room : ℕ) (t : Table) (buf : List ℕ
 
 -- every test met gives verdict 0
 pub sent-accepts : (h : Header) (rows : List Row) (room : ℕ) (t : Table) (buf : List ℕ) (space : ℕ) → Sends h rows room t buf space
-    → sentOf h rows room t buf space .verdict ≡ Accepted
+    → messageWriting h rows room t buf space .verdict ≡ Accepted
 sent-accepts h rows room t buf space s = rw (answered h rows room t buf space s)
 
 pub sent-settled : SentSettled

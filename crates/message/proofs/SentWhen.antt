@@ -47,7 +47,7 @@ use Rattle.payload.proofs.Promises.{done-exactly, write-verdicts}
 use Rattle.message.specs.declared.header.Header.{Header}
 use Rattle.message.specs.MessageType.{isOne}
 use Rattle.message.specs.Header.{headerLen}
-use Rattle.message.specs.Writing.{messageBytes, framed, sendingOf, sentOf}
+use Rattle.message.specs.Writing.{messageBytes, framed, sendingOf, messageWriting}
 use Rattle.message.specs.SentWhen.{SentWhen, SentVerdicts}
 use Rattle.message.proofs.SentLaws.{sent-accepts}
 
@@ -84,8 +84,8 @@ module _ (h : Header) (rows : List Row) (room : ℕ) (t : Table) (buf : List ℕ
   unfolding writingOf answerIs
   refused-when u o = write-verdicts rows room t buf payloadMost u .0 (rw o)
 
-  given : (v : Verdict) → sentOf h rows room t buf space .verdict ≡ v → SentWhen h rows room t buf space v
-  unfolding sentOf sendingOf framed answerIs
+  given : (v : Verdict) → messageWriting h rows room t buf space .verdict ≡ v → SentWhen h rows room t buf space v
+  unfolding messageWriting sendingOf framed answerIs
   given v = go (isOne (h .kind .0)) refl (outcomeOf rows room t buf payloadMost) refl
     where
       by : (u : Verdict) → SentWhen h rows room t buf space u → u ≡ v → SentWhen h rows room t buf space v
@@ -119,20 +119,20 @@ module _ (h : Header) (rows : List Row) (room : ℕ) (t : Table) (buf : List ℕ
       go (done p) e = absurd (omega (arith, ap verdictNumber e))
 
   refused-gives : (v : Verdict) → isOne (h .kind .0) ≡ true → outcomeOf rows room t buf payloadMost ≡ refused v
-      → sentOf h rows room t buf space .verdict ≡ v
-  unfolding sentOf sendingOf framed answerIs
+      → messageWriting h rows room t buf space .verdict ≡ v
+  unfolding messageWriting sendingOf framed answerIs
   refused-gives v k o = rw (k, o)
 
-  table-gives : outcomeOf rows room t buf payloadMost ≡ refused NoTable → sentOf h rows room t buf space .verdict ≡ NoTable
-  unfolding sentOf sendingOf framed answerIs
+  table-gives : outcomeOf rows room t buf payloadMost ≡ refused NoTable → messageWriting h rows room t buf space .verdict ≡ NoTable
+  unfolding messageWriting sendingOf framed answerIs
   table-gives o = rw o (go (isOne (h .kind .0)))
     where
       go : (b : Bool) → answerIs (pick b (refused NoTable) (refused NoTable)) .verdict ≡ NoTable
       go true = refl
       go false = refl
 
-  gives : (v : Verdict) → SentWhen h rows room t buf space v → sentOf h rows room t buf space .verdict ≡ v
-  unfolding sentOf sendingOf framed answerIs
+  gives : (v : Verdict) → SentWhen h rows room t buf space v → messageWriting h rows room t buf space .verdict ≡ v
+  unfolding messageWriting sendingOf framed answerIs
   gives Accepted s = sent-accepts h rows room t buf space s
   gives NoTable (inl k) = rw k
   gives NoTable (inr f) = table-gives (outcome-by NoTable (omega arith) f)

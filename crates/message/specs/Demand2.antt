@@ -18,7 +18,7 @@ use Rattle.message.specs.MessageType.{notification}
 use Rattle.message.specs.Header.{headerLen, Fitting}
 use Rattle.message.specs.Part.{part, partOf}
 use Rattle.message.specs.Reading.{messageOf}
-use Rattle.message.specs.Writing.{messageBytes, sendingOf, sentOf, sentOutput}
+use Rattle.message.specs.Writing.{messageBytes, sendingOf, messageWriting, messageOutput}
 
 -- what is expected by a reader of this header
 abbrev pub expectedOf : Header → Expected
@@ -63,8 +63,8 @@ MessageDemand2Holds =
 abbrev pub MessageDemand2Answered : Type 0
 MessageDemand2Answered =
     (h : Header) (rows : List Row) (room : ℕ) (t : Table) (buf old : List ℕ) → Fitting h → Handed rows t buf
-    → sentOf h rows room t buf (length old) .verdict ≡ Accepted
-    → MessageDemand2 h rows t buf (take (sentOf h rows room t buf (length old) .len) (sentOutput h rows room t buf old))
+    → messageWriting h rows room t buf (length old) .verdict ≡ Accepted
+    → MessageDemand2 h rows t buf (take (messageWriting h rows room t buf (length old) .len) (messageOutput h rows room t buf old))
 
 -- ---- not empty
 

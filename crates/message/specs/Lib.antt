@@ -2,8 +2,10 @@ pub mod MessageType
 pub mod Header
 pub mod Part
 pub mod Reading
+pub mod Rows
 pub mod Writing
 pub mod Sent
 pub mod SentWhen
 pub mod Demand2
+pub mod Demand3
 pub mod Promises

@@ -13,7 +13,7 @@ use Rattle.payload.specs.Settled.{payloadOf, Accepts}
 use Rattle.message.specs.declared.header.Header.{Header}
 use Rattle.message.specs.MessageType.{isOne}
 use Rattle.message.specs.Header.{headerLen, protocolVersion, Fitting}
-use Rattle.message.specs.Writing.{messageBytes, sentOf, sentOutput}
+use Rattle.message.specs.Writing.{messageBytes, messageWriting, messageOutput}
 
 -- ---- by byte number
 
@@ -49,10 +49,10 @@ pub record Sends (h : Header) (rows : List Row) (room : ℕ) (t : Table) (buf : 
 
 module _ (h : Header) (rows : List Row) (room : ℕ) (t : Table) (buf old : List ℕ) where
   abbrev answer : Written
-  answer = sentOf h rows room t buf (length old)
+  answer = messageWriting h rows room t buf (length old)
 
   abbrev after : List ℕ
-  after = sentOutput h rows room t buf old
+  after = messageOutput h rows room t buf old
 
   abbrev size : ℕ
   size = length (payloadOf t buf rows)
@@ -81,6 +81,6 @@ SentSettled = (h : Header) (rows : List Row) (room : ℕ) (t : Table) (buf old :
 abbrev pub OneSending : Type 0
 OneSending =
     (h : Header) (rows : List Row) (room : ℕ) (t : Table) (buf old : List ℕ) (r s : Written) (o p : List ℕ)
-    → (r ≡ sentOf h rows room t buf (length old)) × (o ≡ sentOutput h rows room t buf old)
-    → (s ≡ sentOf h rows room t buf (length old)) × (p ≡ sentOutput h rows room t buf old)
+    → (r ≡ messageWriting h rows room t buf (length old)) × (o ≡ messageOutput h rows room t buf old)
+    → (s ≡ messageWriting h rows room t buf (length old)) × (p ≡ messageOutput h rows room t buf old)
     → (r ≡ s) × (o ≡ p)

@@ -40,7 +40,7 @@ use Rattle.payload.specs.WriteWhen.{WrittenWhen}
 use Rattle.message.specs.declared.header.Header.{Header}
 use Rattle.message.specs.MessageType.{isOne}
 use Rattle.message.specs.Header.{headerLen}
-use Rattle.message.specs.Writing.{sentOf}
+use Rattle.message.specs.Writing.{messageWriting}
 use Rattle.message.specs.Sent.{Sends}
 
 -- `space` is the number of output bytes.
@@ -80,5 +80,5 @@ module _ (h : Header) (rows : List Row) (room : ℕ) (t : Table) (buf : List ℕ
 abbrev pub SentVerdicts : Type 0
 SentVerdicts =
     (h : Header) (rows : List Row) (room : ℕ) (t : Table) (buf : List ℕ) (space : ℕ) (v : Verdict)
-    → (sentOf h rows room t buf space .verdict ≡ v → SentWhen h rows room t buf space v)
-    × (SentWhen h rows room t buf space v → sentOf h rows room t buf space .verdict ≡ v)
+    → (messageWriting h rows room t buf space .verdict ≡ v → SentWhen h rows room t buf space v)
+    × (SentWhen h rows room t buf space v → messageWriting h rows room t buf space .verdict ≡ v)

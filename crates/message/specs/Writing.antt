@@ -29,9 +29,9 @@ unfoldable pub sendingOf : Header → List Row → ℕ → Table → List ℕ �
 sendingOf h rows room t buf space = pick (isOne (h .kind .0)) (framed h space (outcomeOf rows room t buf payloadMost)) (refused NoTable)
 
 -- A write answers its verdict and the message's length, 0 on refusal.
-unfoldable pub sentOf : Header → List Row → ℕ → Table → List ℕ → ℕ → Written
-sentOf h rows room t buf space = answerIs (sendingOf h rows room t buf space)
+unfoldable pub messageWriting : Header → List Row → ℕ → Table → List ℕ → ℕ → Written
+messageWriting h rows room t buf space = answerIs (sendingOf h rows room t buf space)
 
 -- A refused write changes no output byte; an accepted one changes the message's bytes only, from the output's start.
-unfoldable pub sentOutput : Header → List Row → ℕ → Table → List ℕ → List ℕ → List ℕ
-sentOutput h rows room t buf old = outputIs old (sendingOf h rows room t buf (length old))
+unfoldable pub messageOutput : Header → List Row → ℕ → Table → List ℕ → List ℕ → List ℕ
+messageOutput h rows room t buf old = outputIs old (sendingOf h rows room t buf (length old))

@@ -2,6 +2,7 @@
 
 ghost use mathlib.Core.Path.{_≡_};
 ghost use Rattle.message.specs.Part.{partOf};
+use super::read::Head;
 
 // A part of a datagram: the place of its first byte, and how many bytes it has.
 pub struct Part {
@@ -22,4 +23,18 @@ pub fn part_of(d: &[u8], p: Part) -> &[u8]
         return &d[0..0];
     }
     &d[at..at + len]
+}
+
+// The payload of a message that was read.
+pub fn payload_part(d: &[u8], h: Head) -> &[u8]
+    ensures { λ r. ⌜ now r ≡ partOf (now (d .entry)) (h .payload) ⌝ }
+{
+    part_of(d, h.payload)
+}
+
+// The bytes after a message that was read.
+pub fn rest_part(d: &[u8], h: Head) -> &[u8]
+    ensures { λ r. ⌜ now r ≡ partOf (now (d .entry)) (h .rest) ⌝ }
+{
+    part_of(d, h.rest)
 }

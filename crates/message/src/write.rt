@@ -6,7 +6,7 @@ ghost use lib.ListN.{length};
 ghost use lib.Seq.{sets};
 ghost use Rattle.payload.specs.Writing.{refused, answerIs};
 ghost use Rattle.message.specs.Header.{headerBytes};
-ghost use Rattle.message.specs.Writing.{sentOf, sentOutput};
+ghost use Rattle.message.specs.Writing.{messageWriting, messageOutput};
 use super::header;
 use super::header::Header;
 use payload::row::Row;
@@ -48,8 +48,8 @@ pub fn write_by_value(
     content: &[u8],
     out: &mut [u8],
 ) -> Written
-    ensures answer { λ r. ⌜ r ≡ sentOf h rows room t (now (content .entry)) (length (now (out .entry))) ⌝ }
-    ensures output { λ r. ⌜ now (out .exit) ≡ sentOutput h rows room t (now (content .entry)) (now (out .entry)) ⌝ }
+    ensures { λ r. ⌜ (r ≡ messageWriting h rows room t (now (content .entry)) (length (now (out .entry))))
+        × (now (out .exit) ≡ messageOutput h rows room t (now (content .entry)) (now (out .entry))) ⌝ }
 {
     if !h.kind.is_one() {
         return refuse(Verdict::Table);
