@@ -1,9 +1,15 @@
-// An answer in the form of document 01: a line for the verdict, one for each row that is set, and the count of these.
+// The answers, in the form of tests/second/FORMAT.md. Each follows its case's label.
 
+ghost use Prim.Native.Nat.{_<_};
+use super::input;
+use super::lent;
+use message::part::Part;
+use message::read::MessageReading;
 use payload::read::Reading;
 use payload::row::Row;
 use payload::row::Value;
 use payload::table::Table;
+use payload::write::Written;
 use wire::number;
 use wire::verdict::ReturnCode;
 use wire::verdict::Verdict;
@@ -82,9 +88,9 @@ fn unused(bits: u64) {
     }
 }
 
-// A run of bytes.
-fn run(place: usize, len: usize) {
-    field(b" bytes ", place as u64);
+// A word, a place and a length.
+fn run(word: &[u8], place: usize, len: usize) {
+    field(word, place as u64);
     field(b" ", len as u64);
 }
 
@@ -105,7 +111,7 @@ fn row(r: Row) {
         }
         Value::Unsigned(n) => field(b" unsigned ", n),
         Value::Signed(n) => signed(n),
-        Value::Bytes { place, len } => run(place, len),
+        Value::Bytes { place, len } => run(b" bytes ", place, len),
         Value::Members => {
             io::write_all(1, b" members");
         }
@@ -125,13 +131,110 @@ fn rows(r: Reading, t: Table) {
     }
 }
 
-// An answer. Its first line follows the vector's label.
-pub fn reading(r: Reading, t: Table) {
+// A verdict, a place and the count of skipped members.
+fn answer(r: Reading) {
     let v = r.verdict;
     verdict(v);
     field(b" place ", r.place as u64);
     field(b" skipped ", r.skipped as u64);
+}
+
+// The answer to a payload.
+pub fn reading(r: Reading, t: Table) {
+    answer(r);
     rows(r, t);
     field(b"\nfilled ", r.filled as u64);
+    io::write_all(1, b"\n");
+}
+
+// A part of a datagram. An empty one has no place after a refusal.
+fn part(word: &[u8], p: Part, accepted: bool) {
+    if p.len == 0 {
+        if !accepted {
+            run(word, 0, 0);
+            return;
+        }
+    }
+    run(word, p.at, p.len);
+}
+
+// What a lent row holds after a reading, counted from 0: what the reading gives it, or what it held before.
+fn row_after(r: Reading, i: usize) -> Row
+    requires { ⌜ i < 255 ⌝ }
+{
+    if i < 64 && i < r.filled {
+        return r.rows[i];
+    }
+    lent::lent_row(i)
+}
+
+// A line for each lent row: those that the reading set, and then those that it left alone.
+fn lent_rows(r: Reading, room: usize) {
+    let mut i: usize = 0;
+    while i < 255 && i < room {
+        field(b"\n", i as u64 + 1);
+        row(row_after(r, i));
+        i += 1;
+    }
+}
+
+// The answer to a datagram, for which so many rows are lent.
+pub fn message(m: MessageReading, room: usize) {
+    let r = m.reading;
+    answer(r);
+    let h = m.head;
+    field(b"\nclient ", h.client.0 as u64);
+    field(b" session ", h.session.0 as u64);
+    field(b" return ", h.found_code as u64);
+    let v = r.verdict;
+    let accepted = v.number() == 0;
+    part(b"\npayload ", h.payload, accepted);
+    part(b" rest ", h.rest, accepted);
+    lent_rows(r, room);
+    io::write_all(1, b"\n");
+}
+
+// A digit of a byte, in capitals.
+fn digit(x: u8) -> u8 {
+    if x % 16 < 10 {
+        return b'0' + x % 16;
+    }
+    b'A' + x % 16 - 10
+}
+
+// Bytes behind a space; nothing where there are none.
+fn bytes(b: &[u8]) {
+    let mut text = [b' '; 4097];
+    let mut i: usize = 0;
+    while i < 2048 && i < b.len() {
+        text[2 * i + 1] = digit(b[i] / 16);
+        text[2 * i + 2] = digit(b[i]);
+        i += 1;
+    }
+    if 0 < i {
+        let end = input::within(&text, 2 * i + 1);
+        io::write_all(1, &text[..end]);
+    }
+}
+
+// The answer to a writing, with the output, which has so many bytes.
+pub fn written(w: Written, out: &[u8; 2048], n: usize) {
+    let v = w.verdict;
+    verdict(v);
+    field(b" length ", w.len as u64);
+    io::write_all(1, b"\noutput");
+    let all = &out[..];
+    let end = input::within(all, n);
+    bytes(&all[..end]);
+    io::write_all(1, b"\n");
+}
+
+// The answer to a table.
+pub fn table(fits: bool) {
+    if fits {
+        verdict(Verdict::Accepted);
+    } else {
+        verdict(Verdict::Table);
+    }
     io::write_all(1, b"\n");
 }

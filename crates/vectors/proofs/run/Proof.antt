@@ -12,9 +12,6 @@ Inv-loop text s₀ at₀ s at = at ≤ length text
 abbrev μ-loop : tie.MeasureT-loop
 μ-loop text s₀ at₀ s at = length text - at
 
-setting-of-requires : tie.Need-setting-of-requires Inv-loop μ-loop
-setting-of-requires c κs = search needs
-
 loop-holds : tie.Need-loop-holds Inv-loop μ-loop
 loop-holds c = search needs
 
@@ -30,14 +27,14 @@ part-rest-end c = search needs
 find-requires : tie.Need-find-requires Inv-loop μ-loop
 find-requires c κs = search needs
 
+returns : tie.Need-returns Inv-loop μ-loop
+returns c = search needs
+
 slice-aggregate-run-line : tie.Need-slice-aggregate-run-line Inv-loop μ-loop
 slice-aggregate-run-line c = search needs
 
 run-line-requires : tie.Need-run-line-requires Inv-loop μ-loop
 run-line-requires c κs = search needs
-
-returns : tie.Need-returns Inv-loop μ-loop
-returns c = search needs
 
 add-at : tie.Need-add-at Inv-loop μ-loop
 add-at c = search needs
@@ -60,15 +57,14 @@ run-spec =
     (tie.spec
     Inv-loop
     μ-loop
-    setting-of-requires
     loop-holds
     sub-rest
     part-rest-start
     part-rest-end
     find-requires
+    returns
     slice-aggregate-run-line
     run-line-requires
-    returns
     add-at
     add-at-2
     loop-less

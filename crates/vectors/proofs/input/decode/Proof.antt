@@ -11,7 +11,7 @@ use Rattle.vectors.proofs.input.decode.Statement.{statement}
 use Rattle.vectors.proofs.input.decode.Tie as tie
 
 abbrev Inv-loop : tie.InvT-loop
-Inv-loop line out₀ n₀ i₀ out n i = (n ≤ 1536) × (length out ≡ 1536) × (i ≤ length line)
+Inv-loop line out₀ n₀ i₀ out n i = (n ≤ 2048) × (length out ≡ 2048) × (i ≤ length line)
 
 abbrev μ-loop : tie.MeasureT-loop
 μ-loop line out₀ n₀ i₀ out n i = length line - i

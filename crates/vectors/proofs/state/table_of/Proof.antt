@@ -1,11 +1,11 @@
--- `input::setting_of` is safe and ends. The loop's invariant: i is at most 64, and the array has kept its length.
+-- `state::table_of` is safe and ends. The loop's invariant: i is at most 64, and the array has kept its length.
 -- Assumes nothing.
 use borrow.Author.Needs.{needs}
 use Prim.Native.Nat.{_≤_, _-_}
 use lib.ListN.{length}
 use mathlib.Core.Path.{_≡_}
-use Rattle.vectors.proofs.input.setting_of.Statement.{statement}
-use Rattle.vectors.proofs.input.setting_of.Tie as tie
+use Rattle.vectors.proofs.state.table_of.Statement.{statement}
+use Rattle.vectors.proofs.state.table_of.Tie as tie
 
 abbrev Inv-loop : tie.InvT-loop
 Inv-loop b count rows₀ i₀ rows i = (i ≤ 64) × (length rows ≡ 64)
@@ -58,17 +58,11 @@ wide-requires-2 c κs = search needs
 element-copy-out-t23 : tie.Need-element-copy-out-t23 Inv-loop μ-loop
 element-copy-out-t23 c = search needs
 
-element-copy-out-wide-3 : tie.Need-element-copy-out-wide-3 Inv-loop μ-loop
-element-copy-out-wide-3 c = search needs
-
-wide-requires-3 : tie.Need-wide-requires-3 Inv-loop μ-loop
-wide-requires-3 c κs = search needs
-
 returns : tie.Need-returns Inv-loop μ-loop
 returns c = search needs
 
-pub setting-of-spec : {M : Type 1} → statement M
-setting-of-spec =
+pub table-of-spec : {M : Type 1} → statement M
+table-of-spec =
     tie.close
     (tie.spec
     Inv-loop
@@ -88,6 +82,4 @@ setting-of-spec =
     element-copy-out-wide-2
     wide-requires-2
     element-copy-out-t23
-    element-copy-out-wide-3
-    wide-requires-3
     returns)

@@ -1,9 +1,10 @@
 #!/usr/bin/env python3
-"""The vectors of this crate and the answers that they must get.
+"""Payloads by hand and some random ones, and the answers that they must get.
 
-Run in crates/vectors: writes `stdin` (tables and payloads) and `stdout` (the answers).
+Writes `stdin` (tables and payloads) and `stdout` (the answers) to the folder that it is run in.
 `expected.py SEED DIR` writes random ones only, of another seed, to DIR/stdin and DIR/stdout.
-The reader below is written from document 01 alone. It shares nothing with the library.
+The reader below is written from document 01 alone. It shares nothing with the library, and nothing with `sip.py`:
+the first part of what crates/vectors is held to has two readers that agree.
 
 A line of `stdin` is a label, a colon and bytes in hexadecimal. The label `table` sets the type
 table for the lines that follow: number of value rows lent, number of type rows, length width,

@@ -1,0 +1,39 @@
+-- `read_more` reads within the text, whose length stays.
+-- Assumes nothing.
+use borrow.Author.Needs.{needs}
+use Rattle.io.proofs.Counting.{counts}
+use Rattle.vectors.proofs.read_more.Statement.{statement}
+use Rattle.vectors.proofs.read_more.Tie as tie
+
+sub-read-full : tie.Need-sub-read-full
+sub-read-full c = search needs
+
+part-read-full-start : tie.Need-part-read-full-start
+part-read-full-start c = search needs
+
+part-read-full-end : tie.Need-part-read-full-end
+part-read-full-end c = search needs
+
+read-full-requires : tie.Need-read-full-requires
+read-full-requires c κs = search needs
+
+add-result : tie.Need-add-result
+add-result c = search needs
+
+same-length : tie.Need-same-length
+same-length c = search needs
+
+returns : tie.Need-returns
+returns c = (search needs, counts _ _ (search needs))
+
+pub read-more-spec : {M : Type 1} → statement M
+read-more-spec =
+    tie.close
+    (tie.spec
+    sub-read-full
+    part-read-full-start
+    part-read-full-end
+    read-full-requires
+    add-result
+    same-length
+    returns)
