@@ -62,7 +62,7 @@ module _ (h : Header) (t u : Table) (rows : List Row) (buf : List ℕ) (m : Memb
   abbrev d : List ℕ
   d = messageOfMembers h (t .width) m ++ x
 
-  read-is : messageOf d (expectedOf h) u room ≡ headed d (readingOf p u room)
+  pub read-is : messageOf d (expectedOf h) u room ≡ headed d (readingOf p u room)
   unfolding framed.d framed.m
   read-is = framed.read-is h (s .fitting) p few x u (given .kind-one) (s .two-tables .reader-fits) room enough
 

@@ -20,12 +20,13 @@ use Rattle.message.proofs.MessageLaws as message
 use Rattle.message.proofs.RowLaws as rows
 use Rattle.message.specs.Sent.{SentSettled, OneSending}
 use Rattle.message.specs.SentWhen.{SentVerdicts}
-use Rattle.message.specs.Demand2.{MessageDemand2Holds, MessageDemand2Answered}
+use Rattle.message.specs.Demand2.{MessageDemand2Holds, MessageDemand2Answered, CaseASent}
 use Rattle.message.proofs.SentLaws as sent
 use Rattle.message.proofs.SentWhen as when
-use Rattle.message.specs.Demand3.{MessageDemand3Holds, AbsentArrives}
+use Rattle.message.specs.Demand3.{MessageDemand3Holds, AbsentArrives, MessageDemand3Shown}
 use Rattle.message.proofs.Demand2 as demands
 use Rattle.message.proofs.Demand3 as orders
+use Rattle.message.proofs.SentCases as cases
 
 pub one-of-five : OneOfFive
 one-of-five = field.one-law
@@ -83,6 +84,12 @@ message-demand-3 = orders.message-demand-3
 
 pub absent-arrives : AbsentArrives
 absent-arrives = orders.absent-arrives
+
+pub case-a-sent : CaseASent
+case-a-sent = cases.case-a-sent
+
+pub message-demand-3-shown : MessageDemand3Shown
+message-demand-3-shown = cases.message-demand-3-shown
 
 pub lent-written : LentWritten
 lent-written = rows.lent-written

@@ -4,7 +4,8 @@
 -- requires is absent at a level that is present. That is the payload's Arrives; here stand the header, and whatever follows the message.
 use mathlib.Core.Path.{_≡_}
 use Prim.Native.Nat.{ℕ, _≤_}
-use mathlib.Core.List.{List, _++_}
+use mathlib.Core.Bool.{Bool}
+use mathlib.Core.List.{List, [], _++_}
 use lib.ListN.{length, getD}
 use Rattle.payload.specs.declared.table.Table.{Table}
 use Rattle.payload.specs.declared.row.Row.{Row}
@@ -13,16 +14,18 @@ use Rattle.payload.specs.Table.{typeRows}
 use Rattle.payload.specs.Row.{absentRow}
 use Rattle.payload.specs.Tree.{Members, bytesOf}
 use Rattle.payload.specs.Writing.{treeOf, done}
+use Rattle.payload.specs.Reading.{readingOf}
 use Rattle.payload.specs.Demand2.{Handed}
 use Rattle.payload.specs.Paths.{pathRow}
 use Rattle.payload.specs.Demand3.{TwoTables, Reordered, writtenAt, Arrives}
+use Rattle.payload.specs.Demand3Cases.{writerTable, readerTable, writtenRows, otherOrder, otherBytes}
 use Rattle.message.specs.declared.header.Header.{Header}
 use Rattle.message.specs.declared.read.MessageReading.{MessageReading}
 use Rattle.message.specs.Header.{headerLen, Fitting}
 use Rattle.message.specs.Part.{part, partOf}
 use Rattle.message.specs.Reading.{messageOf}
 use Rattle.message.specs.Writing.{messageBytes, sendingOf}
-use Rattle.message.specs.Demand2.{expectedOf}
+use Rattle.message.specs.Demand2.{expectedOf, headerW}
 use mathlib.Core.Option.{some}
 
 -- The writer makes a message from its rows under t, with any room and output, and its members are put in the order m, for a reader under u.
@@ -63,3 +66,13 @@ AbsentArrives =
     → MessageSent h t u rows buf m → u .count ≤ room
     → (path : List ℕ) (j : ℕ) → pathRow (typeRows u) 1 0 path ≡ some j → writtenAt t rows path .value ≡ Absent
     → getD (messageOf (messageOfMembers h (t .width) m ++ x) (expectedOf h) u room .reading .rows) j absentRow ≡ absentRow
+
+-- ---- not empty
+
+-- The payload's two tables and rows (its Demand3Cases): the writer makes a message of them, and in the other order, whatever follows it, the
+-- message is read as that payload: accepted, or refused as Missing where the reader's table requires the string.
+pub record MessageDemand3Shown : Type 0 where
+  pub sent : (required : Bool) → MessageSent headerW writerTable (readerTable required) writtenRows [] otherOrder
+  pub reads : (required : Bool) (x : List ℕ)
+      → messageOf (messageOfMembers headerW (writerTable .width) otherOrder ++ x) (expectedOf headerW) (readerTable required) 6 .reading
+      ≡ readingOf otherBytes (readerTable required) 6

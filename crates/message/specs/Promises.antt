@@ -294,6 +294,7 @@ OneLent =
 -- MessageDemand2Answered, in specs/Demand2.antt.
 
 -- M16. Demand 3: two tables, any order, at every level; absent arrives as absent: MessageDemand3Holds and AbsentArrives, in specs/Demand3.antt.
+-- Neither is empty: CaseASent in specs/Demand2.antt, MessageDemand3Shown in specs/Demand3.antt.
 
 -- M17. Lent rows are written as they are: of the 64 rows that the writing by value is handed, each is the lent one, and absent where none is lent.
 pub record LentIs (lent : List Row) : Type 0 where
