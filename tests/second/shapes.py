@@ -530,10 +530,19 @@ def change_wire_types(rng, level):
                 member.reserved = 1
 
 
+def change_booleans(rng, table, level):
+    """Bytes of booleans that no writer makes: only the lowest bit counts."""
+    for _, members in levels(level):
+        for member in members:
+            if table.rows[member.row].kind == BOOLEAN and rng.random() < 0.5:
+                member.content = bytes([rng.choice((2, 3, 0x80, 0xFE, 0xFF, rng.randrange(256)))])
+
+
 def random_level(rng, table=None):
     """A table and a payload in the making that its reader takes: shuffled, with unknown members."""
     table, _, _, payload = random_written(rng, table)
     level = level_of(table, payload)
+    change_booleans(rng, table, level)
     if rng.random() < 0.8:
         shuffle_members(rng, level)
     if rng.random() < 0.7:

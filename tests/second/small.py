@@ -61,7 +61,7 @@ def member(rng, table, depth):
     if kind < STRING:
         wire = sip.NUMBER_KINDS[kind][1] if kind in sip.NUMBER_KINDS and rng.random() < 0.9 else rng.randint(0, 3)
         size = 1 << wire
-        content = rng.choice(EDGES).to_bytes(8, "big")[-size:]
+        content = rng.choice((rng.choice(EDGES).to_bytes(8, "big")[-size:], rng.randbytes(size)))
     else:
         wire = rng.randint(4, 7)
         content = members(rng, table, depth + 1) if kind == STRUCT and depth < 4 else rng.choice((text_of(rng), content_of(rng, 3)))

@@ -1,5 +1,4 @@
-// Runs the cases that standard input has, and writes what the library answers. Cases and answers have the form of tests/second/FORMAT.md:
-// a line is a label, a colon and bytes in hexadecimal; it sets something for the lines that follow, or is a case.
+// Runs the cases that standard input has and writes what the library answers, both in the form of tests/second/FORMAT.md.
 mod input;
 mod lent;
 mod show;
@@ -14,6 +13,7 @@ use message::write as message_write;
 use payload::read;
 use payload::table;
 use payload::write;
+use state::Line;
 use state::State;
 
 // What runs of the input leave: what is set, and where the first line begins that is not whole.
@@ -66,13 +66,13 @@ fn run_line(line: &[u8], s: State) -> State {
     let label = &line[..colon];
     let mut bytes = [0u8; 2048];
     let n = input::decode(&line[colon..], &mut bytes);
-    if state::is_setting(label) {
-        return s.set(label, &bytes, n);
+    let what = state::line_of(label);
+    if let Line::Case = what {
+        io::write_all(1, label);
+        let space = input::find(label, b' ');
+        run_case(&label[..space], &bytes, n, s);
     }
-    io::write_all(1, label);
-    let space = input::find(label, b' ');
-    run_case(&label[..space], &bytes, n, s);
-    s
+    s.set(what, &bytes, n)
 }
 
 // Runs each whole line of a text.

@@ -18,8 +18,7 @@ use wire::number;
 // The bytes of a value row.
 const RECORD: usize = 26;
 
-// The table and how many rows are lent for reading; what is expected of a message; the header, rows and content for writing, with how many
-// rows are lent and how many bytes the content has.
+// What is set: for reading the table, the lent rows' number and the expectation; for writing header, rows and content, with their numbers.
 pub struct State {
     pub table: Table,
     pub room: usize,
@@ -184,45 +183,65 @@ pub fn start() -> State {
     }
 }
 
+// What a line does by its label: it sets something, or is a case.
+pub enum Line {
+    Table,
+    Expect,
+    Header,
+    Rows,
+    Content,
+    Case,
+}
+
+// The line of a label.
+pub fn line_of(label: &[u8]) -> Line {
+    if check::same(label, b"table") {
+        return Line::Table;
+    }
+    if check::same(label, b"expect") {
+        return Line::Expect;
+    }
+    if check::same(label, b"header") {
+        return Line::Header;
+    }
+    if check::same(label, b"rows") {
+        return Line::Rows;
+    }
+    if check::same(label, b"content") {
+        return Line::Content;
+    }
+    Line::Case
+}
+
 impl State {
-    // Sets what a line of `n` bytes sets by its label; any other label sets nothing.
-    pub fn set(mut self, label: &[u8], b: &[u8; 2048], n: usize) -> State {
-        if check::same(label, b"table") {
-            let t = table_of(b);
-            self.table = t;
-            self.room = wide(b[0]);
-        } else if check::same(label, b"expect") {
-            let e = expected_of(b);
-            self.expected = e;
-        } else if check::same(label, b"header") {
-            let h = header_of(b);
-            self.header = h;
-        } else if check::same(label, b"rows") {
-            let rows = rows_of(b);
-            self.rows = rows;
-            self.lent = n / RECORD;
-        } else if check::same(label, b"content") {
-            let content = *b;
-            self.content = content;
-            self.len = n;
+    // Sets what a line of `n` bytes sets; a case sets nothing.
+    pub fn set(mut self, line: Line, b: &[u8; 2048], n: usize) -> State {
+        match line {
+            Line::Table => {
+                let t = table_of(b);
+                self.table = t;
+                self.room = wide(b[0]);
+            }
+            Line::Expect => {
+                let e = expected_of(b);
+                self.expected = e;
+            }
+            Line::Header => {
+                let h = header_of(b);
+                self.header = h;
+            }
+            Line::Rows => {
+                let rows = rows_of(b);
+                self.rows = rows;
+                self.lent = n / RECORD;
+            }
+            Line::Content => {
+                let content = *b;
+                self.content = content;
+                self.len = n;
+            }
+            Line::Case => {}
         }
         self
     }
-}
-
-// Whether a line with this label sets something.
-pub fn is_setting(label: &[u8]) -> bool {
-    if check::same(label, b"table") {
-        return true;
-    }
-    if check::same(label, b"expect") {
-        return true;
-    }
-    if check::same(label, b"header") {
-        return true;
-    }
-    if check::same(label, b"rows") {
-        return true;
-    }
-    check::same(label, b"content")
 }
