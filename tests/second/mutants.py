@@ -27,7 +27,7 @@ EDITS = (  # what is wrong; sip.py's words; the wrong words
     ("field cut by the payload's end", "if at + field_bytes > end:", "if at + field_bytes > len(self.payload):"),
     ("unknown twice is 22", "        if number is None:\n            self.skipped += 1", "        if number is None:\n            if data_id in met: raise Refused(22, tag_at)\n            met.add(data_id)\n            self.skipped += 1"),
     ("unknown twice is counted once", "self.skipped += 1", "self.skipped += 0 if (-1 - data_id) in met else 1; met.add(-1 - data_id)"),
-    ("nonzero is TRUE", "return unsigned(number & 1)", "return unsigned(number != 0)"),
+    ("nonzero is TRUE", "return unsigned(number & 1)", "return unsigned(int(number != 0))"),
     ("27 under an absent struct", "        for number in self.known[parent].values():", "        for number in (range(len(self.type_rows)) if parent is None else self.known[parent].values()):"),
     ("22 by ID over all levels", "            if number in met:\n                raise Refused(22, tag_at)\n", "            ids = self.__dict__.setdefault('ids', set())\n            if data_id in ids:\n                raise Refused(22, tag_at)\n            ids.add(data_id)\n"),
     ("known by ID at any level", "number = self.known[parent].get(data_id)", "number = next((d[data_id] for d in self.known.values() if data_id in d), None)"),
