@@ -619,9 +619,10 @@ def make_cases(seed, count):
     return cases.lines
 
 
-def main():
+def main(make):
+    """Writes the cases that `make` makes by the arguments SEED COUNT DIR, and the second program's answers."""
     seed, count, folder = int(sys.argv[1]), int(sys.argv[2]), sys.argv[3]
-    lines = make_cases(seed, count)
+    lines = make(seed, count)
     answerer = answer.Answerer()
     answers = [shown for line in lines for shown in answerer.answer(line)]
     os.makedirs(folder, exist_ok=True)
@@ -648,4 +649,4 @@ def print_counts(answers):
 
 
 if __name__ == "__main__":
-    main()
+    main(make_cases)

@@ -5,9 +5,7 @@
 
 writes DIR/stdin and DIR/stdout as `gen.py` does, whose cases are built with a purpose instead.
 """
-import os
 import random
-import sys
 
 import answer
 import gen
@@ -176,17 +174,5 @@ def make_cases(seed, count):
     return cases.lines
 
 
-def main():
-    seed, count, folder = int(sys.argv[1]), int(sys.argv[2]), sys.argv[3]
-    lines = make_cases(seed, count)
-    answerer = answer.Answerer()
-    answers = [shown for line in lines for shown in answerer.answer(line)]
-    os.makedirs(folder, exist_ok=True)
-    for name, content in (("stdin", lines), ("stdout", answers)):
-        with open(os.path.join(folder, name), "w") as file:
-            file.write("\n".join(content) + "\n")
-    gen.print_counts(answers)
-
-
 if __name__ == "__main__":
-    main()
+    gen.main(make_cases)

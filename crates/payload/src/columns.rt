@@ -42,7 +42,7 @@ fn run_size(kind: usize, len: usize) -> usize
     len + 1
 }
 
-// What the passes keep of a row that fits.
+// What the passes keep of a row that fits. For this crate's own passes.
 pub fn held_of(cell: u64, r: Row) -> Held
     requires { ⌜ FineRow (rowIn cell) × ShortRun (r .value) ⌝ }
     ensures { λ h. ⌜ h ≡ heldOf (kindIn cell) (r .value) (r .bits) ⌝ }

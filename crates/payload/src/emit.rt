@@ -101,6 +101,7 @@ fn put_row(
 }
 
 // The members of the present rows, in table order, from the output's start. A struct's members follow as the rows do.
+// For this crate's own passes.
 pub fn put_rows(
     out: &mut [u8],
     cells: &[u64; 64],

@@ -204,7 +204,7 @@ fn up_after(cell: u64, r: Row, upto: u64) -> u64
 }
 
 // The rows in table order, as many as the table has: the first that is not fine decides. Rows that are fine leave what the passes behind
-// keep of them.
+// keep of them. For this crate's own passes.
 pub fn judge_rows(
     rows: [Row; 64],
     cells: &[u64; 64],

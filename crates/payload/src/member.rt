@@ -194,7 +194,7 @@ fn find_level(cells: &[u64; 64], f: Frame, ident: u64) -> Found
     table::find_in(cells, f.first, f.stop, f.level, ident)
 }
 
-// The member at a place below the level's end.
+// The member at a place below the level's end. For this crate's own walk.
 pub fn member_at(p: &[u8], cells: &[u64; 64], marks: &[usize; 64], at: usize, f: Frame) -> Member
     requires { ⌜ Steady (now p) (now cells) f × (at < f .end) ⌝ }
     ensures { λ r. ⌜ MemberAt (now (p .entry)) (now (cells .entry)) (now (marks .entry)) at f r ⌝ }

@@ -82,7 +82,7 @@ fn number_row(k: usize, v: u64) -> Row
     }
 }
 
-// The row that is kept as a word and a mark.
+// The row that is kept as a word and a mark. For this crate's own walk.
 pub fn kept_row(k: usize, word: u64, mark: usize) -> Row
     requires { ⌜ (0 < k) × (k < 15) ⌝ }
     ensures { λ r. ⌜ r ≡ keptRow k word mark ⌝ }
@@ -102,7 +102,7 @@ pub fn kept_row(k: usize, word: u64, mark: usize) -> Row
     plain(Value::Members)
 }
 
-// The rows that are kept; rows beyond are absent.
+// The rows that are kept; rows beyond are absent. For this crate's own walk.
 pub fn kept_rows(
     cells: &[u64; 64],
     words: &[u64; 64],

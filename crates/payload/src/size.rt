@@ -110,6 +110,7 @@ fn added(level: u64, own: usize, s: Sums) -> Sums
 }
 
 // The bytes of the payload, where each content fits its length field. What is kept of a struct's size takes in what the struct holds.
+// For this crate's own passes.
 pub fn measure(cells: &[u64; 64], sizes: &mut [usize; 64], count: usize, width: usize) -> Sized
     requires { ⌜ (count ≤ 64) × (width ≤ 4) × (length (now sizes) ≡ 64) × ((i : ℕ) → i < count → getD (now sizes) i 0 < 9223372036854775820) ⌝ }
     ensures answer { λ r. ⌜ ((ws : ℕ) (buf nums : List ℕ) → Columns width ws count buf (now (cells .entry)) nums (now (sizes .entry))

@@ -109,6 +109,7 @@ fn packed(r: TypeRow) -> u64
 }
 
 // The row of a Data ID among the direct members of the level whose rows begin at `first`; one test compares level and Data ID.
+// For this crate's own walk.
 pub fn find_row(cells: &[u64; 64], first: usize, count: usize, level: u64, ident: u64) -> Found
     requires { ⌜ (count ≤ 64) × (level < 16) × (ident < 4096) ⌝ }
     ensures { λ r. ⌜ (r ≡ foundAt first (find level ident (drop first (tableIn count (now (cells .entry)))))) × Within (now (cells .entry)) first count level r ⌝ }
@@ -129,6 +130,7 @@ pub fn find_row(cells: &[u64; 64], first: usize, count: usize, level: u64, ident
 }
 
 // Where the rows of a level end that begin at `first`: at the first row above the level, or with the table.
+// For this crate's own walk.
 pub fn level_end(cells: &[u64; 64], first: usize, count: usize, level: u64) -> usize
     requires { ⌜ (first ≤ count) × (count ≤ 64) ⌝ }
     ensures { λ r. ⌜ Stops (now (cells .entry)) first r count level ⌝ }
@@ -180,6 +182,7 @@ fn find_key(cells: &[u64; 64], first: usize, stop: usize, key: u64) -> Found
 }
 
 // The row of a Data ID among the direct members of the level whose rows are those from `first` to `stop`, four at a time.
+// For this crate's own walk.
 pub fn find_in(cells: &[u64; 64], first: usize, stop: usize, level: u64, ident: u64) -> Found
     requires { ⌜ (first ≤ stop) × (stop ≤ 64) × (level < 16) × (ident < 4096) × ((i : ℕ) → first ≤ i → i < stop → level ≤ levelIn (getD (now cells) i 0)) ⌝ }
     ensures { λ r. ⌜ (r ≡ searchAt stop (now (cells .entry)) level ident first) × Within (now (cells .entry)) first stop level r ⌝ }
@@ -333,6 +336,7 @@ fn rises(before: bool, last: u64, ident: u64) -> bool
 }
 
 // Whether a table keeps its rules, with its rows' cells. Data IDs that rise in each struct differ; only others are compared one by one.
+// For the library's own readers and writers; users call `table_fits`.
 pub fn checked(t: Table, cells: &mut [u64; 64]) -> bool
     requires { ⌜ length (now cells) ≡ 64 ⌝ }
     ensures { λ r. ⌜ Checked t (now (cells .exit)) r ⌝ }
