@@ -2,6 +2,7 @@ pub mod MessageType
 pub mod Header
 pub mod Part
 pub mod Reading
+pub mod Opening
 pub mod Rows
 pub mod Writing
 pub mod Sent

@@ -3,9 +3,9 @@
 ghost use mathlib.Core.Path.{_≡_};
 ghost use Prim.Native.Nat.{_+_, _≤_};
 ghost use lib.ListN.{length};
-ghost use Rattle.payload.specs.Reading.{cleared};
 ghost use Rattle.message.specs.Header.{fieldAt};
-ghost use Rattle.message.specs.Reading.{lengthFails, headerVerdict, payloadShown, headAt, unheaded, messageOf};
+ghost use Rattle.message.specs.Reading.{lengthFails, headerVerdict, payloadShown, headAt, messageOf};
+ghost use Rattle.message.specs.Opening.{headOf, shutOf, Ends, Opened};
 use super::header;
 use super::id::ClientId;
 use super::id::MethodId;
@@ -41,6 +41,15 @@ pub struct Head {
 pub struct MessageReading {
     pub head: Head,
     pub reading: Reading,
+}
+
+// What is known of a message before its payload is read: why it is refused, or Accepted; how many lent rows are set; and where its payload
+// begins and ends, both 0 where the header wasn't looked at.
+pub struct Opening {
+    pub why: Verdict,
+    pub filled: usize,
+    pub from: usize,
+    pub end: usize,
 }
 
 // The number of the two bytes at a place.
@@ -123,57 +132,79 @@ fn head_at(d: &[u8], end: usize, why: Verdict) -> Head
     }
 }
 
-// A refusal before the header is looked at: nothing is handed on, and both parts are empty.
-fn without_header(why: Verdict, filled: usize) -> MessageReading
-    ensures { λ r. ⌜ r ≡ unheaded (cleared filled why 0) ⌝ }
+// What the header hands on of a message that ends at `end`; nothing where the header wasn't looked at, and `end` is 0.
+fn head_of(d: &[u8], end: usize, why: Verdict) -> Head
+    requires { ⌜ Ends (now d) end ⌝ }
+    ensures { λ r. ⌜ r ≡ headOf (now (d .entry)) end why ⌝ }
 {
-    MessageReading {
-        head: Head {
+    if end == 0 {
+        return Head {
             client: ClientId(0),
             session: SessionId(0),
             found_code: 0,
             payload: Part { at: 0, len: 0 },
             rest: Part { at: 0, len: 0 },
-        },
-        reading: read::refusal(why, 0, filled),
+        };
+    }
+    head_at(d, end, why)
+}
+
+// A refusal before the header is looked at.
+fn shut(why: Verdict, filled: usize) -> Opening
+    ensures { λ r. ⌜ r ≡ shutOf why filled ⌝ }
+{
+    Opening {
+        why: why,
+        filled: filled,
+        from: 0,
+        end: 0,
+    }
+}
+
+// 1, 2, 10, 11, then the header's. The cells are the table's where it keeps its rules.
+fn opened(d: &[u8], e: Expected, t: Table, room: usize, cells: &mut [u64; 64]) -> Opening
+    requires { ⌜ length (now cells) ≡ 64 ⌝ }
+    ensures { λ r. ⌜ Opened (now (d .entry)) e t room (now (cells .exit)) r ⌝ }
+{
+    if !e.kind.is_one() {
+        return shut(Verdict::Table, 0);
+    }
+    if !table::checked(t, cells) {
+        return shut(Verdict::Table, 0);
+    }
+    let n = t.count;
+    if room < n {
+        return shut(Verdict::Room, 0);
+    }
+    if d.len() < header::LEN {
+        return shut(Verdict::Short, n);
+    }
+    let length = number::read_number(d, header::LENGTH_AT, 4);
+    if length_fails(length, d.len()) {
+        return shut(Verdict::Length, n);
+    }
+    let end = length as usize + 8;
+    let why = header_verdict(d, e);
+    Opening {
+        why: why,
+        filled: n,
+        from: header::LEN,
+        end: end,
     }
 }
 
 // Reads the message at a datagram's start, where `room` value rows are lent. Any datagram, expectation, table and number of rows gets one
-// answer, by value.
+// answer, by value. Every refusal goes through the payload's one reading: rows of two sources would be moved one by one.
 pub fn read_by_value(d: &[u8], e: Expected, t: Table, room: usize) -> MessageReading
     ensures { λ r. ⌜ r ≡ messageOf (now (d .entry)) e t room ⌝ }
 {
-    if !e.kind.is_one() {
-        return without_header(Verdict::Table, 0);
-    }
     let mut cells = [0u64; 64];
-    if !table::checked(t, &mut cells) {
-        return without_header(Verdict::Table, 0);
-    }
-    let n = t.count;
-    if room < n {
-        return without_header(Verdict::Room, 0);
-    }
-    if d.len() < header::LEN {
-        return without_header(Verdict::Short, n);
-    }
-    let length = number::read_number(d, header::LENGTH_AT, 4);
-    if length_fails(length, d.len()) {
-        return without_header(Verdict::Length, n);
-    }
-    let end = length as usize + 8;
-    let why = header_verdict(d, e);
-    if why.number() != 0 {
-        return MessageReading {
-            head: head_at(d, end, why),
-            reading: read::refusal(why, 0, n),
-        };
-    }
-    let reading = read::read_checked(&d[header::LEN..end], &cells, n, t.width);
+    let o = opened(d, e, t, room, &mut cells);
+    let why = o.why;
+    let reading = read::read_after(why, &d[o.from..o.end], &cells, o.filled, t.width);
     let given = reading.verdict;
     MessageReading {
-        head: head_at(d, end, given),
+        head: head_of(d, o.end, given),
         reading: reading,
     }
 }

@@ -7,12 +7,15 @@ use lib.Seq.{slice}
 use lib.Dec.{ltb, eqb}
 use Rattle.wire.specs.Choose.{pick}
 use Rattle.wire.specs.Kind.{sizeOf, string, struct}
+use Rattle.wire.specs.Verdict.{verdictNumber}
 use Rattle.wire.specs.declared.verdict.Verdict.{Verdict}
 use Rattle.payload.specs.declared.table.TypeRow.{TypeRow}
+use Rattle.payload.specs.declared.table.Table.{Table}
 use Rattle.payload.specs.declared.row.Row.{Row}
 use Rattle.payload.specs.declared.row.Value.the-variants.{Bytes}
 use Rattle.payload.specs.declared.read.Reading.{Reading}
 use Rattle.payload.specs.declared.read.Ending.{Ending}
+use Rattle.payload.specs.declared.read.Admission.{Admission}
 use Rattle.payload.specs.declared.member.Frame.{Frame}
 use Rattle.payload.specs.declared.read.Cursor.{Cursor}
 use Rattle.payload.specs.declared.member.Span.{Span}
@@ -47,6 +50,9 @@ use Rattle.payload.specs.Reading.{
   memberBy,
   walk,
   full,
+  cleared,
+  checkedOf,
+  readingOf,
 }
 
 -- ---- the rows
@@ -209,3 +215,18 @@ settled cells words marks o =
 pub record Ended (cells words marks : List ℕ) (o : Ending) (x : Reading) : Type 0 where
   pub is : settled cells words marks o ≡ x
   pub fine : FineTable (o .kept) cells
+
+-- ---- the verdicts before the walk
+
+-- a refusal that is already given, or 17 and the walk
+abbrev pub afterOf : Verdict → List ℕ → List TypeRow → ℕ → ℕ → Reading
+afterOf why p types count width = pick (eqb (verdictNumber why) 0) (checkedOf p types count width) (cleared count why 0)
+
+-- where no refusal is given, the cells are those of a checked table
+abbrev pub Admits : Verdict → ℕ → ℕ → List ℕ → Type 0
+Admits why count width cells = verdictNumber why ≡ 0 → FineTable count cells × (width ≤ 4)
+
+-- 1 and 2 were looked for.
+pub record Admitted (t : Table) (room : ℕ) (cells : List ℕ) (a : Admission) : Type 0 where
+  pub reads : (p : List ℕ) → afterOf (a .why) p (tableIn (a .filled) cells) (a .filled) (t .width) ≡ readingOf p t room
+  pub fine : Admits (a .why) (a .filled) (t .width) cells

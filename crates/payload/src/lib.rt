@@ -3,10 +3,10 @@
 mod columns;
 mod emit;
 mod judge;
-pub mod member;
+mod member;
 pub mod read;
 pub mod row;
-pub mod rows;
+mod rows;
 mod size;
 pub mod table;
 pub mod write;

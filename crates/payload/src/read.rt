@@ -6,9 +6,9 @@ ghost use mathlib.Core.List.{List};
 ghost use Prim.Native.Nat.{ℕ, _+_, _≤_, _<_};
 ghost use lib.ListN.{length, set, drop, replicate};
 ghost use Rattle.payload.specs.Cells.{tableIn, FineTable, Stops};
-ghost use Rattle.payload.specs.Reading.{answerOf, walkedOf, cleared, checkedOf, readingOf};
+ghost use Rattle.payload.specs.Reading.{answerOf, walkedOf, checkedOf, readingOf};
 ghost use Rattle.payload.specs.Reading.{lacks as lacksOf};
-ghost use Rattle.payload.specs.Walking.{kept, innerOf, Ready, LevelRead, MemberRead, stopAt, Ended};
+ghost use Rattle.payload.specs.Walking.{kept, innerOf, Ready, LevelRead, MemberRead, stopAt, Ended, afterOf, Admits, Admitted};
 use super::member;
 use super::member::Frame;
 use super::member::Member;
@@ -40,6 +40,12 @@ pub struct Ending {
     pub skipped: usize,
     pub filled: usize,
     pub kept: usize,
+}
+
+// Why a reading is refused before its payload is looked at, or Accepted, and how many of the lent rows are set.
+pub struct Admission {
+    pub why: Verdict,
+    pub filled: usize,
 }
 
 // Where a walk stands, and how many members it skipped.
@@ -233,37 +239,34 @@ fn limited(
     read_cells(p, cells, words, marks, count, width)
 }
 
-// How the reading of a payload ends. Cells, words and marks are filled on the way.
-fn decided(
+// A refusal that is already given, or 17 and the walk under a checked table of `count` cells.
+fn after(
+    why: Verdict,
     p: &[u8],
-    t: Table,
-    room: usize,
-    cells: &mut [u64; 64],
+    cells: &[u64; 64],
     words: &mut [u64; 64],
     marks: &mut [usize; 64],
+    count: usize,
+    width: usize,
 ) -> Ending
-    requires { ⌜ (length (now cells) ≡ 64) × (now words ≡ replicate 64 0) × (now marks ≡ replicate 64 0) ⌝ }
-    ensures { λ r. ⌜ Ended (now (cells .exit)) (now (words .exit)) (now (marks .exit)) r (readingOf (now (p .entry)) t room) ⌝ }
+    requires { ⌜ Admits why count width (now cells) × (now words ≡ replicate 64 0) × (now marks ≡ replicate 64 0) ⌝ }
+    ensures { λ r. ⌜ Ended (now (cells .entry)) (now (words .exit)) (now (marks .exit)) r (afterOf why (now (p .entry)) (tableIn count (now (cells .entry))) count width) ⌝ }
 {
-    if !table::checked(t, cells) {
-        return stop(Verdict::Table, 0, 0);
+    if why.number() != 0 {
+        return stop(why, 0, count);
     }
-    let n = t.count;
-    if room < n {
-        return stop(Verdict::Room, 0, 0);
-    }
-    limited(p, cells, words, marks, n, t.width)
+    limited(p, cells, words, marks, count, width)
 }
 
-// Reads a payload under a type table, where `room` value rows are lent. Any payload, table and number of rows gets one answer. Its rows are
-// made here and in one place, for a by-value array costs a copy at each call.
-pub fn read_payload(p: &[u8], t: Table, room: usize) -> Reading
-    ensures { λ r. ⌜ r ≡ readingOf (now (p .entry)) t room ⌝ }
+// Reads a payload under a checked table of `count` cells, unless a refusal is already given: then no row is kept, and `count` are set. For the
+// library's own readers. The rows are made here and in one place, for a by-value array costs a copy at each call.
+pub fn read_after(why: Verdict, p: &[u8], cells: &[u64; 64], count: usize, width: usize) -> Reading
+    requires { ⌜ Admits why count width (now cells) ⌝ }
+    ensures { λ r. ⌜ r ≡ afterOf why (now (p .entry)) (tableIn count (now (cells .entry))) count width ⌝ }
 {
-    let mut cells = [0u64; 64];
     let mut words = [0u64; 64];
     let mut marks = [0usize; 64];
-    let o = decided(p, t, room, &mut cells, &mut words, &mut marks);
+    let o = after(why, p, cells, &mut words, &mut marks, count, width);
     let n = o.kept;
     let mut rows = [rows::plain(Value::Absent); 64];
     let mut i: usize = 0;
@@ -282,33 +285,36 @@ pub fn read_payload(p: &[u8], t: Table, room: usize) -> Reading
     }
 }
 
-// A refusal as a reading: no member counts, and the rows are absent, `filled` of them set. For the layer above.
-pub fn refusal(why: Verdict, place: usize, filled: usize) -> Reading
-    ensures { λ r. ⌜ r ≡ cleared filled why place ⌝ }
+// 1, then 2. Where neither is given the cells are the table's.
+fn admitted(t: Table, room: usize, cells: &mut [u64; 64]) -> Admission
+    requires { ⌜ length (now cells) ≡ 64 ⌝ }
+    ensures { λ r. ⌜ Admitted t room (now (cells .exit)) r ⌝ }
 {
-    Reading {
-        verdict: why,
-        place: place,
-        skipped: 0,
-        filled: filled,
-        rows: [rows::plain(Value::Absent); 64],
+    if !table::checked(t, cells) {
+        return Admission {
+            why: Verdict::Table,
+            filled: 0,
+        };
+    }
+    let n = t.count;
+    if room < n {
+        return Admission {
+            why: Verdict::Room,
+            filled: 0,
+        };
+    }
+    Admission {
+        why: Verdict::Accepted,
+        filled: n,
     }
 }
 
-// Reads a payload under a checked table of `count` cells. For the layer above, which has checked the table.
-pub fn read_checked(p: &[u8], cells: &[u64; 64], count: usize, width: usize) -> Reading
-    requires { ⌜ FineTable count (now cells) × (width ≤ 4) ⌝ }
-    ensures { λ r. ⌜ r ≡ checkedOf (now (p .entry)) (tableIn count (now (cells .entry))) count width ⌝ }
+// Reads a payload under a type table, where `room` value rows are lent. Any payload, table and number of rows gets one answer.
+pub fn read_payload(p: &[u8], t: Table, room: usize) -> Reading
+    ensures { λ r. ⌜ r ≡ readingOf (now (p .entry)) t room ⌝ }
 {
-    let mut words = [0u64; 64];
-    let mut marks = [0usize; 64];
-    let o = limited(p, cells, &mut words, &mut marks, count, width);
-    let verdict = o.verdict;
-    Reading {
-        verdict: verdict,
-        place: o.place,
-        skipped: o.skipped,
-        filled: o.filled,
-        rows: rows::kept_rows(cells, &words, &marks, o.kept),
-    }
+    let mut cells = [0u64; 64];
+    let a = admitted(t, room, &mut cells);
+    let why = a.why;
+    read_after(why, p, &cells, a.filled, t.width)
 }

@@ -4,13 +4,10 @@ ghost use mathlib.Core.Path.{_≡_};
 ghost use Prim.Native.Nat.{_+_, _%_, _^_, _≤_, _<_};
 ghost use Rattle.wire.specs.Number.{half};
 ghost use Rattle.wire.specs.Kind.{sizeOf, string};
-ghost use Rattle.payload.specs.Cells.{tableIn, FineTable};
 ghost use Rattle.payload.specs.Row.{numberRow, plain as plainRow};
-ghost use Rattle.payload.specs.Reading.{full};
-ghost use Rattle.payload.specs.Walking.{keptRow, kept};
+ghost use Rattle.payload.specs.Walking.{keptRow};
 use super::row::Row;
 use super::row::Value;
-use super::table;
 use wire::kind;
 use wire::number;
 
@@ -100,24 +97,4 @@ pub fn kept_row(k: usize, word: u64, mark: usize) -> Row
         });
     }
     plain(Value::Members)
-}
-
-// The rows that are kept; rows beyond are absent. For this crate's own walk.
-pub fn kept_rows(
-    cells: &[u64; 64],
-    words: &[u64; 64],
-    marks: &[usize; 64],
-    count: usize,
-) -> [Row; 64]
-    requires { ⌜ FineTable count (now cells) ⌝ }
-    ensures { λ r. ⌜ r ≡ full (kept (tableIn count (now (cells .entry))) (now (words .entry)) (now (marks .entry))) ⌝ }
-{
-    let mut rows = [plain(Value::Absent); 64];
-    let mut i: usize = 0;
-    while i < count {
-        let row = kept_row(table::kind_in(cells[i]), words[i], marks[i]);
-        rows[i] = row;
-        i += 1;
-    }
-    rows
 }

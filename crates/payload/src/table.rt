@@ -110,7 +110,7 @@ fn packed(r: TypeRow) -> u64
 
 // The row of a Data ID among the direct members of the level whose rows begin at `first`; one test compares level and Data ID.
 // For this crate's own walk.
-pub fn find_row(cells: &[u64; 64], first: usize, count: usize, level: u64, ident: u64) -> Found
+fn find_row(cells: &[u64; 64], first: usize, count: usize, level: u64, ident: u64) -> Found
     requires { ⌜ (count ≤ 64) × (level < 16) × (ident < 4096) ⌝ }
     ensures { λ r. ⌜ (r ≡ foundAt first (find level ident (drop first (tableIn count (now (cells .entry)))))) × Within (now (cells .entry)) first count level r ⌝ }
 {

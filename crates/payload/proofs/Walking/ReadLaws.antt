@@ -7,13 +7,15 @@ use mathlib.Core.Bool.{Bool, true, false}
 use mathlib.Core.List.{List}
 use lib.ListN.{length, replicate}
 use lib.Seq.{slice, take-length}
-use borrow.Author.Tests.{lt-ltb, le-ltb}
+use borrow.Author.Tests.{lt-ltb, le-ltb, eq-eqb, ne-eqb}
+use Rattle.wire.specs.Verdict.{verdictNumber}
 use Rattle.wire.specs.declared.verdict.Verdict.{Verdict}
 use Rattle.wire.specs.declared.verdict.Verdict.the-variants.{Accepted, Table as NoTable, Room, Large}
 use Rattle.payload.specs.declared.table.TypeRow.{TypeRow}
 use Rattle.payload.specs.declared.table.Table.{Table}
 use Rattle.payload.specs.declared.read.Reading.{Reading}
 use Rattle.payload.specs.declared.read.Ending.{Ending}
+use Rattle.payload.specs.declared.read.Admission.{Admission}
 use Rattle.payload.specs.declared.member.Frame.{Frame}
 use Rattle.payload.specs.declared.read.Cursor.{Cursor}
 use Rattle.payload.specs.declared.read.Walk.{Walk}
@@ -21,7 +23,7 @@ use Rattle.payload.specs.declared.read.Walk.the-variants.{Going, Refused
 use Rattle.payload.specs.Table.{typeRows, tableFits}
 use Rattle.payload.specs.Cells.{rowsIn, tableIn, FineTable, Filled, Checked}
 use Rattle.payload.specs.Reading.{payloadMost, walkedOf, cleared, answerOf, checkedOf, readingOf}
-use Rattle.payload.specs.Walking.{keptFrom, kept, walkIn, LevelRead, stopAt, settled, Ended}
+use Rattle.payload.specs.Walking.{keptFrom, kept, walkIn, LevelRead, stopAt, settled, Ended, afterOf, Admitted}
 use Rattle.payload.proofs.Walking.KeptLaws.{kept-none}
 
 -- ---- refusals
@@ -62,21 +64,28 @@ module _ (p cells : List ℕ) (count width : ℕ) (r : Walk) (words₀ marks₀ 
 
 -- ---- the verdicts before the walk
 
-module _ (p : List ℕ) (t : Table) (room : ℕ) (cells : List ℕ) (fits : Bool) (k : Checked t cells fits) (words marks : List ℕ) (o : Ending) where
-  pub reading-table : fits ≡ false → o ≡ stopAt 0 NoTable 0 → Ended cells words marks o (readingOf p t room)
+module _ (t : Table) (room : ℕ) (cells : List ℕ) (fits : Bool) (k : Checked t cells fits) (a : Admission) where
+  pub admitted-table : fits ≡ false → a ≡ record { why = NoTable; filled = 0 } → Admitted t room cells a
   unfolding readingOf
-  reading-table e d = ended-stop cells words marks 0 NoTable 0 o d _ (rw (sym (k .answer) ∙ e))
+  admitted-table e d = rw d (record { reads = λ p. rw (sym (k .answer) ∙ e); fine = λ z. absurd (omega (arith, z)) })
 
   module _ (e : fits ≡ true) where
-    pub reading-room : room < t .count → o ≡ stopAt 0 Room 0 → Ended cells words marks o (readingOf p t room)
+    pub admitted-room : room < t .count → a ≡ record { why = Room; filled = 0 } → Admitted t room cells a
     unfolding readingOf
-    reading-room h d = ended-stop cells words marks 0 Room 0 o d _ (rw (sym (k .answer) ∙ e, lt-ltb room (t .count) h))
+    admitted-room h d =
+        rw d (record { reads = λ p. rw (sym (k .answer) ∙ e, lt-ltb room (t .count) h); fine = λ z. absurd (omega (arith, z)) })
 
-    pub reading-checked : t .count ≤ room → Ended cells words marks o (checkedOf p (tableIn (t .count) cells) (t .count) (t .width)) → Ended cells words marks o (readingOf p t room)
+    pub admitted-fine : t .count ≤ room → a ≡ record { why = Accepted; filled = t .count } → Admitted t room cells a
     unfolding readingOf
-    reading-checked h d = record { is = d .is ∙ rw (k .filled e .rows-are, sym (k .answer) ∙ e, le-ltb room (t .count) h); fine = d .fine }
+    admitted-fine h d =
+        let f = k .filled e in
+        rw d
+        (record {
+          reads = λ p. rw (f .rows-are, sym (k .answer) ∙ e, le-ltb room (t .count) h);
+          fine = λ z. (f .fine, f .width-in);
+        })
 
--- the same of a reading that was made
+-- of the table's cells, for the layer above
 pub checked-reading : (p : List ℕ) (t : Table) (room : ℕ) (cells : List ℕ) (fits : Bool) → Checked t cells fits → fits ≡ true → t .count ≤ room
     → checkedOf p (tableIn (t .count) cells) (t .count) (t .width) ≡ readingOf p t room
 unfolding readingOf
@@ -93,3 +102,14 @@ module _ (p cells : List ℕ) (count width : ℕ) (words marks : List ℕ) (o : 
       → Ended cells words marks o (checkedOf p (tableIn count cells) count width)
   unfolding checkedOf
   limited-walk l d = record { is = d .is ∙ rw (le-ltb payloadMost (length p) l); fine = d .fine }
+
+-- ---- a refusal that is already given, or the reading
+
+module _ (why : Verdict) (p cells : List ℕ) (count width : ℕ) (words marks : List ℕ) (o : Ending) where
+  pub after-refused : (verdictNumber why ≡ 0 → ⊥) → o ≡ stopAt count why 0
+      → Ended cells words marks o (afterOf why p (tableIn count cells) count width)
+  after-refused n d = ended-stop cells words marks count why 0 o d _ (rw (ne-eqb (verdictNumber why) 0 n))
+
+  pub after-read : verdictNumber why ≡ 0 → Ended cells words marks o (checkedOf p (tableIn count cells) count width)
+      → Ended cells words marks o (afterOf why p (tableIn count cells) count width)
+  after-read z d = record { is = d .is ∙ rw (eq-eqb (verdictNumber why) 0 z); fine = d .fine }

@@ -1,98 +1,18 @@
--- `payload::read::read_payload` meets its contract. The loop's invariant: the first i rows are there, and those beyond are absent.
+-- `payload::read::read_payload` meets its contract: 1 and 2, then what the payload answers.
 -- Assumes nothing.
-use mathlib.Core.Path.{_≡_, refl, sym, ap, _∙_}
-use Prim.Native.Nat.{_≤_, _-_}
-use native.Mathlib.Omega.{arith}
+use mathlib.Core.Path.{_∙_}
 use borrow.Author.Needs.{needs}
-use Rattle.payload.specs.Cells.{tableIn, FineTable}
-use Rattle.payload.proofs.Walking.KeptLaws.{firstRows, kept-more, kept-all}
 use Rattle.payload.proofs.read.read_payload.Statement.{statement}
 use Rattle.payload.proofs.read.read_payload.Tie as tie
 
-abbrev Inv-loop : tie.InvT-loop
-Inv-loop p room cells words marks o n rows₀ i₀ rows i = (i ≤ n) × (n ≤ 64) × (rows ≡ firstRows (tableIn n cells) words marks i)
+admitted-requires : tie.Need-admitted-requires
+admitted-requires c κs = search needs
 
-abbrev μ-loop : tie.MeasureT-loop
-μ-loop p room cells words marks o n rows₀ i₀ rows i = n - i
+read-after-requires : tie.Need-read-after-requires
+read-after-requires c κs = c .before .admitted .ensures .fine
 
-decided-requires : tie.Need-decided-requires Inv-loop μ-loop
-decided-requires c κs = search needs
-
-plain-requires : tie.Need-plain-requires Inv-loop μ-loop
-plain-requires c κs = search needs
-
-loop-holds : tie.Need-loop-holds Inv-loop μ-loop
-loop-holds c = (omega arith, c .before .decided .ensures .fine .few, rw (c .plain .ensures))
-
-mul-kind-in : tie.Need-mul-kind-in Inv-loop μ-loop
-mul-kind-in c = search needs
-
-array-read-kind-in : tie.Need-array-read-kind-in Inv-loop μ-loop
-array-read-kind-in c = search needs
-
-kind-in-requires : tie.Need-kind-in-requires Inv-loop μ-loop
-kind-in-requires c κs = search needs
-
-mul-kept-row : tie.Need-mul-kept-row Inv-loop μ-loop
-mul-kept-row c = search needs
-
-array-read-kept-row : tie.Need-array-read-kept-row Inv-loop μ-loop
-array-read-kept-row c = search needs
-
-mul-kept-row-2 : tie.Need-mul-kept-row-2 Inv-loop μ-loop
-mul-kept-row-2 c = search needs
-
-array-read-kept-row-2 : tie.Need-array-read-kept-row-2 Inv-loop μ-loop
-array-read-kept-row-2 c = search needs
-
-kept-row-requires : tie.Need-kept-row-requires Inv-loop μ-loop
-kept-row-requires c κs =
-    let h = c .before .before .before .before .decided .ensures .fine .each _ (c .before .loop-test .taken) in
-    omega (arith, c .kind-in .ensures, h .kind-some, h .kind-in)
-
-mul-rows : tie.Need-mul-rows Inv-loop μ-loop
-mul-rows c = search needs
-
-array-set-from-rows : tie.Need-array-set-from-rows Inv-loop μ-loop
-array-set-from-rows c = search needs
-
-add-i : tie.Need-add-i Inv-loop μ-loop
-add-i c = search needs
-
-loop-less : tie.Need-loop-less Inv-loop μ-loop
-loop-less c = search needs
-
-loop-again : tie.Need-loop-again Inv-loop μ-loop
-loop-again c =
-    let few = c .before .before .before .before .before .decided .ensures .fine .few in
-    (omega arith, few, kept-more _ _ _ _ _ (c .before .before .loop-test .taken) few _ (c .before .before .before .loop .inv .2) _ (c .before .kind-in .ensures) _ (c .kept-row .ensures))
-
-returns : tie.Need-returns Inv-loop μ-loop
-returns c =
-    let d = c .before .before .before .decided in
-    let l = c .before .loop in
-    rw (kept-all _ _ _ _ _ (c .loop-test .left) _ (l .inv .2)) (d .ensures .is)
+returns : tie.Need-returns
+returns c = c .read-after .ensures ∙ c .before .before .admitted .ensures .reads _
 
 pub read-payload-spec : {M : Type 1} → statement M
-read-payload-spec =
-    tie.close
-    (tie.spec
-    Inv-loop
-    μ-loop
-    decided-requires
-    plain-requires
-    loop-holds
-    mul-kind-in
-    array-read-kind-in
-    kind-in-requires
-    mul-kept-row
-    array-read-kept-row
-    mul-kept-row-2
-    array-read-kept-row-2
-    kept-row-requires
-    mul-rows
-    array-set-from-rows
-    add-i
-    loop-less
-    loop-again
-    returns)
+read-payload-spec = tie.close (tie.spec admitted-requires read-after-requires returns)
