@@ -40,6 +40,7 @@ module _ (d : List ℕ) (e : Expected) (t : Table) (room : ℕ) (cells : List �
         admits = λ z. absurd (n z);
         ends = λ z. absurd (omega (arith, z));
         onward = omega arith;
+        inside = omega arith;
       })
 
   module _ (one : Bool) (ke : one ≡ isOne (e .kind .0)) where
@@ -124,4 +125,5 @@ module _ (d : List ℕ) (e : Expected) (t : Table) (room : ℕ) (cells : List �
                     admits = λ z. let w = c .filled f in (w .fine, w .width-in);
                     ends = λ z. x;
                     onward = x .0;
+                    inside = x .1;
                   })

@@ -35,3 +35,4 @@ pub record Opened (d : List ℕ) (e : Expected) (t : Table) (room : ℕ) (cells 
   pub admits : Admits (o .why) (o .filled) (t .width) cells
   pub ends : Ends d (o .end)
   pub onward : o .from ≤ o .end
+  pub inside : o .end ≤ length d

@@ -201,10 +201,12 @@ pub fn read_by_value(d: &[u8], e: Expected, t: Table, room: usize) -> MessageRea
     let mut cells = [0u64; 64];
     let o = opened(d, e, t, room, &mut cells);
     let why = o.why;
-    let reading = read::read_after(why, &d[o.from..o.end], &cells, o.filled, t.width);
+    let from = o.from;
+    let end = o.end;
+    let reading = read::read_after(why, &d[from..end], &cells, o.filled, t.width);
     let given = reading.verdict;
     MessageReading {
-        head: head_of(d, o.end, given),
+        head: head_of(d, end, given),
         reading: reading,
     }
 }

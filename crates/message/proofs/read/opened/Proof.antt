@@ -26,19 +26,19 @@ shut-requires-2 : tie.Need-shut-requires-2
 shut-requires-2 c κs = search needs
 
 returns-2 : tie.Need-returns-2
-returns-2 c = opened-table _ _ _ _ _ _ (c .before .before .before .before .is-one .ensures) (not-false _ (c .before .before .before .if1 .left)) _ (c .before .before .checked .ensures) (not-true _ (c .before .if2 .taken)) _ (c .shut2 .ensures)
+returns-2 c = opened-table _ _ _ _ _ _ (c .before .before .before .before .before .is-one .ensures) (not-false _ (c .before .before .before .before .if1 .left)) _ (c .before .before .checked .ensures) (not-true _ (c .before .if2 .taken)) _ (c .shut2 .ensures)
 
 shut-requires-3 : tie.Need-shut-requires-3
 shut-requires-3 c κs = search needs
 
 returns-3 : tie.Need-returns-3
-returns-3 c = opened-room _ _ _ _ _ _ (c .before .before .before .before .before .is-one .ensures) (not-false _ (c .before .before .before .before .if1 .left)) _ (c .before .before .before .checked .ensures) (not-false _ (c .before .before .if2 .left)) (c .before .if3 .taken) _ (c .shut3 .ensures)
+returns-3 c = opened-room _ _ _ _ _ _ (c .before .before .before .before .before .before .is-one .ensures) (not-false _ (c .before .before .before .before .before .if1 .left)) _ (c .before .before .before .checked .ensures) (not-false _ (c .before .before .if2 .left)) (c .before .if3 .taken) _ (c .shut3 .ensures)
 
 shut-requires-4 : tie.Need-shut-requires-4
 shut-requires-4 c κs = search needs
 
 returns-4 : tie.Need-returns-4
-returns-4 c = opened-short _ _ _ _ _ _ (c .before .before .before .before .before .before .is-one .ensures) (not-false _ (c .before .before .before .before .before .if1 .left)) _ (c .before .before .before .before .checked .ensures) (not-false _ (c .before .before .before .if2 .left)) (c .before .before .if3 .left) (c .before .if4 .taken) _ (c .shut4 .ensures)
+returns-4 c = opened-short _ _ _ _ _ _ (c .before .before .before .before .before .before .before .is-one .ensures) (not-false _ (c .before .before .before .before .before .before .if1 .left)) _ (c .before .before .before .before .checked .ensures) (not-false _ (c .before .before .before .if2 .left)) (c .before .before .if3 .left) (c .before .if4 .taken) _ (c .shut4 .ensures)
 
 read-number-requires : tie.Need-read-number-requires
 read-number-requires c κs = search needs
@@ -51,7 +51,7 @@ shut-requires-5 c κs = search needs
 
 returns-5 : tie.Need-returns-5
 unfolding fieldAt
-returns-5 c = opened-length _ _ _ _ _ _ (c .before .before .before .before .before .before .before .before .before .is-one .ensures) (not-false _ (c .before .before .before .before .before .before .before .before .if1 .left)) _ (c .before .before .before .before .before .before .before .checked .ensures) (not-false _ (c .before .before .before .before .before .before .if2 .left)) (c .before .before .before .before .before .if3 .left) (c .before .before .before .before .if4 .left) _ (c .before .before .before .read-number .ensures .0) _ (c .before .before .length-fails .ensures) (c .before .if5 .taken) _ (c .shut5 .ensures)
+returns-5 c = opened-length _ _ _ _ _ _ (c .before .before .before .before .before .before .before .before .before .before .is-one .ensures) (not-false _ (c .before .before .before .before .before .before .before .before .before .if1 .left)) _ (c .before .before .before .before .before .before .before .checked .ensures) (not-false _ (c .before .before .before .before .before .before .if2 .left)) (c .before .before .before .before .before .if3 .left) (c .before .before .before .before .if4 .left) _ (c .before .before .before .read-number .ensures .0) _ (c .before .before .length-fails .ensures) (c .before .if5 .taken) _ (c .shut5 .ensures)
 
 add-end : tie.Need-add-end
 add-end c = search needs
@@ -61,7 +61,7 @@ header-verdict-requires c κs = search needs
 
 returns-6 : tie.Need-returns-6
 unfolding fieldAt
-returns-6 c = opened-headed _ _ _ _ _ _ (c .before .before .before .before .before .before .before .before .is-one .ensures) (not-false _ (c .before .before .before .before .before .before .before .if1 .left)) _ (c .before .before .before .before .before .before .checked .ensures) (not-false _ (c .before .before .before .before .before .if2 .left)) (c .before .before .before .before .if3 .left) (c .before .before .before .if4 .left) _ (c .before .before .read-number .ensures .0) _ (c .before .before .length-fails .ensures) (c .before .if5 .left) _ refl _ (c .header-verdict .ensures) _ refl
+returns-6 c = opened-headed _ _ _ _ _ _ (c .before .before .before .before .before .before .before .before .before .before .is-one .ensures) (not-false _ (c .before .before .before .before .before .before .before .before .before .if1 .left)) _ (c .before .before .before .before .before .before .before .checked .ensures) (not-false _ (c .before .before .before .before .before .before .if2 .left)) (c .before .before .before .before .before .if3 .left) (c .before .before .before .before .if4 .left) _ (c .before .before .before .read-number .ensures .0) _ (c .before .before .length-fails .ensures) (c .before .if5 .left) _ refl _ (c .header-verdict .ensures) _ refl
 
 pub opened-spec : {M : Type 1} → statement M
 opened-spec =

@@ -15,16 +15,16 @@ part-read-after-start : tie.Need-part-read-after-start
 part-read-after-start c = c .opened .ensures .onward
 
 part-read-after-end : tie.Need-part-read-after-end
-part-read-after-end c = search needs
+part-read-after-end c = c .opened .ensures .inside
 
 read-after-requires : tie.Need-read-after-requires
-read-after-requires c κs = c .before .opened .ensures .admits
+read-after-requires c κs = c .before .before .opened .ensures .admits
 
 head-of-requires : tie.Need-head-of-requires
-head-of-requires c κs = c .before .opened .ensures .ends
+head-of-requires c κs = c .before .before .before .opened .ensures .ends
 
 returns : tie.Need-returns
-returns c = c .before .before .opened .ensures .reads _ (c .before .read-after .ensures) _ (c .head-of .ensures)
+returns c = c .before .before .before .before .opened .ensures .reads _ (c .before .read-after .ensures) _ (c .head-of .ensures)
 
 pub read-by-value-spec : {M : Type 1} → statement M
 read-by-value-spec =
