@@ -1,5 +1,6 @@
 -- The promises of specs/Promises.antt, each by the law that shows it.
 -- Assumes nothing.
+use mathlib.Core.Path.{sym, _∙_}
 use Rattle.wire.specs.Promises.{
   NumberReadBack,
   BytesWrittenBack,
@@ -14,6 +15,7 @@ use Rattle.wire.specs.Promises.{
   StringReadBack,
   StringParts,
   VerdictsDiffer,
+  OneResult,
 }
 use Rattle.wire.proofs.NumberLaws.{number-back, bytes-back, getD-numberBytes, signed-twos}
 use Rattle.wire.proofs.TagLaws.{tag-reserved, tag-wire, tag-ident, tag-back}
@@ -56,3 +58,6 @@ string-parts = string-fits
 
 pub verdicts-differ : VerdictsDiffer
 verdicts-differ = verdict-one
+
+pub one-result : OneResult
+one-result X x r s d e = d ∙ sym e

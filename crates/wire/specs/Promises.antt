@@ -64,3 +64,7 @@ StringParts = (c : List ℕ) → stringFits c ≡ true → (c ≡ stringBytes (t
 -- W10. Two verdicts have two numbers.
 abbrev pub VerdictsDiffer : Type 0
 VerdictsDiffer = (v u : Verdict) → verdictNumber v ≡ verdictNumber u → v ≡ u
+
+-- W11. Each function's contract is an equation with a definition: any two results that meet it are equal, a number, a list or an answer.
+abbrev pub OneResult : Type 1
+OneResult = (X : Type 0) (x r s : X) → r ≡ x → s ≡ x → r ≡ s
