@@ -21,6 +21,8 @@ use Rattle.payload.specs.Promises.{
   AllRows,
   RoomLast,
   DoneExactly,
+  OneFit,
+  WithinLevel,
 }
 use Rattle.payload.specs.Settled.{WriteSettled}
 use Rattle.payload.specs.WriteWhen.{WriteVerdicts}
@@ -43,6 +45,7 @@ use Rattle.payload.proofs.Trees.Accepted.{accept-law}
 use Rattle.payload.proofs.Trees.Unique.{tree-unique}
 use Rattle.payload.proofs.Trees.Refusals.{reading-outcome, reading-size, reading-refused, reading-filled, reading-place, reading-inside, reading-shown}
 use Rattle.payload.proofs.Trees.Inner.{entered}
+use Rattle.payload.proofs.Trees.Bounds.{walk-bounds}
 
 pub table-decided : TableDecided
 table-decided t all = record { fits-keeps = table.fits-keeps t all; keeps-fits = table.keeps-fits t all }
@@ -124,3 +127,9 @@ room-last = rooms.room-last
 
 pub done-exactly : DoneExactly
 done-exactly = rooms.done-exactly
+
+pub one-fit : OneFit
+one-fit t r s d e = d ∙ sym e
+
+pub within-level : WithinLevel
+within-level = walk-bounds

@@ -16,14 +16,14 @@ use Rattle.payload.specs.declared.write.Written.{Written}
 use Rattle.payload.specs.Table.{find, identsDiffer, typeRows, tableFits, TableRules, RowOf}
 use Rattle.payload.specs.Cells.{tableIn, Checked}
 use Rattle.payload.specs.Row.{absentRow}
-use Rattle.payload.specs.Reading.{enter, stepOf, payloadMost, checkedOf, readingOf}
+use Rattle.payload.specs.Reading.{enter, stepOf, walk, payloadMost, checkedOf, readingOf}
 use Rattle.payload.specs.Writing as writing
 use Rattle.payload.specs.Writing.{refused, done, outcomeOf, writingOf, outputOf}
 use Rattle.payload.specs.Settled as settled
 use Rattle.payload.specs.Settled.{payloadOf}
 use Rattle.payload.specs.Tree.{Members, bytesOf}
 use Rattle.payload.specs.Formed.{Formed}
-use Rattle.payload.specs.Bounds.{ByWalk, RunIn, Entered}
+use Rattle.payload.specs.Bounds.{ByWalk, RunIn, Bounded, Entered}
 use Rattle.payload.specs.Outcome.{changesNone, Outcome, AcceptLaw}
 
 -- P1. A table passes the test exactly when it keeps the rules.
@@ -137,3 +137,17 @@ pub record DoneLaw (rows : List Row) (room : ℕ) (t : Table) (buf : List ℕ) (
 
 abbrev pub DoneExactly : Type 0
 DoneExactly = (rows : List Row) (room : ℕ) (t : Table) (buf : List ℕ) (space : ℕ) → DoneLaw rows room t buf space
+
+-- ---- a table
+
+-- P21. Any two answers to the question whether a table keeps its rules are equal.
+abbrev pub OneFit : Type 0
+OneFit = (t : Table) (r s : Bool) → r ≡ tableFits t → s ≡ tableFits t → r ≡ s
+
+-- ---- a level
+
+-- P22. No place read or shown lies past the end of its enclosing level, at whatever level: a refusal's place and each run that the walk of a
+-- level's bytes gives are within them.
+abbrev pub WithinLevel : Type 0
+WithinLevel = (turns width : ℕ) (types : List TypeRow) (l first place : ℕ) (bytes : List ℕ) (rows : List Row) (n : ℕ)
+    → Bounded place (place + length bytes) rows (walk turns width types l first place bytes rows n)
