@@ -1,5 +1,8 @@
 -- The promises of specs/Promises.antt, each by the law that shows it.
 -- Assumes nothing.
+use mathlib.Core.Path.{sym, _∙_}
+use lib.ListN.{length}
+use Rattle.message.specs.Rows.{lentRows}
 use Rattle.message.specs.Promises.{
   OneOfFive,
   FieldsByByte,
@@ -14,6 +17,8 @@ use Rattle.message.specs.Promises.{
   OldRowsIgnored,
   OneLent,
   LentWritten,
+  OneLentSending,
+  OnePart,
 }
 use Rattle.message.proofs.FieldLaws as field
 use Rattle.message.proofs.MessageLaws as message
@@ -93,3 +98,9 @@ message-demand-3-shown = cases.message-demand-3-shown
 
 pub lent-written : LentWritten
 lent-written = rows.lent-written
+
+pub one-lent-sending : OneLentSending
+one-lent-sending h lent = sent.one-sending h (lentRows lent) (length lent)
+
+pub one-part : OnePart
+one-part d p r s e f = e ∙ sym f

@@ -39,7 +39,9 @@ use Rattle.payload.specs.Table.{inRange, tableFits}
 use Rattle.payload.specs.Row.{absentRow}
 use Rattle.payload.specs.Reading.{payloadMost, readingOf}
 use Rattle.payload.specs.Outcome.{changesNone}
+use Rattle.payload.specs.declared.write.Written.{Written}
 use Rattle.message.specs.declared.header.Header.{Header}
+use Rattle.message.specs.declared.part.Part.{Part}
 use Rattle.message.specs.declared.read.Expected.{Expected}
 use Rattle.message.specs.declared.read.Head.{Head}
 use Rattle.message.specs.declared.read.MessageReading.{MessageReading}
@@ -64,6 +66,7 @@ use Rattle.message.specs.Header.{
 use Rattle.message.specs.Part.{part, noPart, partOf}
 use Rattle.message.specs.Reading.{payloadOf, messageOf}
 use Rattle.message.specs.Rows.{answeredOf, rowsAfter, lentRows}
+use Rattle.message.specs.Writing.{messageWriting, messageOutput}
 
 abbrev pub Exactly : Type 0 → Type 0 → Type 0
 Exactly a b = (a → b) × (b → a)
@@ -303,3 +306,17 @@ pub record LentIs (lent : List Row) : Type 0 where
 
 abbrev pub LentWritten : Type 0
 LentWritten = (lent : List Row) → LentIs lent
+
+-- M18. Any two answers, with the outputs after, that meet the contract of the writer from lent rows are equal.
+abbrev pub OneLentSending : Type 0
+OneLentSending =
+    (h : Header) (lent : List Row) (t : Table) (buf old : List ℕ) (r s : Written) (o p : List ℕ)
+    → (r ≡ messageWriting h (lentRows lent) (length lent) t buf (length old)) × (o ≡ messageOutput h (lentRows lent) (length lent) t buf old)
+    → (s ≡ messageWriting h (lentRows lent) (length lent) t buf (length old)) × (p ≡ messageOutput h (lentRows lent) (length lent) t buf old)
+    → (r ≡ s) × (o ≡ p)
+
+-- ---- parts
+
+-- M19. Any two sub-slices that are handed back as a part of a datagram have the same bytes.
+abbrev pub OnePart : Type 0
+OnePart = (d : List ℕ) (p : Part) (r s : List ℕ) → r ≡ partOf d p → s ≡ partOf d p → r ≡ s
