@@ -1,0 +1,1 @@
+// Value rows as numbers.
