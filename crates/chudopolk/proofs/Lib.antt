@@ -1,1 +1,3 @@
 mod TableLaws
+mod RowLaws
+mod HeadLaws

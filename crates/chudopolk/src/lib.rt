@@ -3,22 +3,50 @@
 // A slice crosses as a pointer and a count of elements. What rows and tables cross as is in `table` and `rows`. No function has a premise:
 // numbers that no table has get verdict 1, too few value rows 2, and a value row that says no value 30.
 
+mod head;
 mod rows;
 mod table;
 
 ghost use mathlib.Core.Path.{_≡_};
 ghost use Rattle.payload.specs.Table.{tableFits};
+ghost use Rattle.message.specs.Reading.{messageOf};
 ghost use Rattle.chudopolk.specs.Table.{tableOf, tableVerdict};
-use payload::table as types;
+ghost use Rattle.chudopolk.specs.Head.{expectedOf, answerOf, roomOf, valuesAfter};
+use head::Answer;
+use head::Expectation;
+use message::read;
+use payload::table as payload_table;
 use table::Form;
 
 // Whether a type table keeps its rules: 0, or verdict 1.
 #[no_mangle]
-pub extern "C" fn chudopolk_check_table(form: Form, rows: &[u64]) -> u32
-    ensures { λ r. ⌜ r ≡ tableVerdict (tableFits (tableOf form (now (rows .entry)))) ⌝ }
+pub extern "C" fn chudopolk_check_table(form: Form, types: &[u64]) -> u32
+    ensures { λ r. ⌜ r ≡ tableVerdict (tableFits (tableOf form (now (types .entry)))) ⌝ }
 {
-    if types::table_fits(table::table_of(form, rows)) {
+    if payload_table::table_fits(table::table_of(form, types)) {
         return 0;
     }
     1
+}
+
+// Reads the message at a datagram's start into lent value rows, four numbers to a row.
+#[no_mangle]
+pub extern "C" fn chudopolk_read_message(
+    datagram: &[u8],
+    expected: Expectation,
+    form: Form,
+    types: &[u64],
+    values: &mut [u64],
+) -> Answer
+    ensures { λ r. ⌜ (r ≡ answerOf (messageOf (now (datagram .entry)) (expectedOf expected) (tableOf form (now (types .entry))) (roomOf (now (values .entry)))))
+        × (now (values .exit) ≡ valuesAfter (messageOf (now (datagram .entry)) (expectedOf expected) (tableOf form (now (types .entry))) (roomOf (now (values .entry)))) (now (values .entry))) ⌝ }
+{
+    let t = table::table_of(form, types);
+    let e = head::expected_of(expected);
+    let m = read::read_by_value(datagram, e, t, values.len() / 4);
+    let got = m.reading;
+    let all = got.rows;
+    rows::put_rows(values, all, got.filled);
+    let v = got.verdict;
+    head::answer_of(m.head, v, got.place, got.skipped)
 }
