@@ -6,14 +6,21 @@ use native.Mathlib.Omega.{arith}
 use mathlib.Core.List.{List}
 use lib.ListN.{length}
 use Rattle.payload.specs.declared.table.Table.{Table}
+use Rattle.payload.specs.declared.row.Row.{Row}
+use Rattle.payload.specs.declared.write.Written.{Written}
+use Rattle.message.specs.declared.header.Header.{Header}
 use Rattle.message.specs.declared.read.Expected.{Expected}
 use Rattle.message.specs.declared.read.MessageReading.{MessageReading}
 use Rattle.message.specs.Reading.{messageOf}
+use Rattle.message.specs.Writing.{messageWriting, messageOutput}
 use Rattle.message.proofs.Promises.{sets-rows}
 use Rattle.chudopolk.specs.declared.table.Form.{Form}
 use Rattle.chudopolk.specs.declared.head.Expectation.{Expectation}
+use Rattle.chudopolk.specs.declared.head.Fields.{Fields}
+use Rattle.chudopolk.specs.declared.head.Sent.{Sent}
 use Rattle.chudopolk.specs.Table.{tableOf}
-use Rattle.chudopolk.specs.Head.{expectedOf, roomOf}
+use Rattle.chudopolk.specs.Rows.{rowsOf}
+use Rattle.chudopolk.specs.Head.{expectedOf, roomOf, headerOf, sentIs, sentOf}
 
 -- the rows that a reading sets are there, and so is room for them
 pub rows-in : (d : List ℕ) (e : Expected) (t : Table) (values : List ℕ) (m : MessageReading) → m ≡ messageOf d e t (roomOf values)
@@ -27,3 +34,21 @@ pub read-as : (d types values : List ℕ) (x : Expectation) (form : Form) (e : E
     → m ≡ messageOf d e t (roomOf values) → m ≡ messageOf d (expectedOf x) (tableOf form types) (roomOf values)
 read-as d types values x form e t m he ht h =
     h ∙ ap (λ (u : Expected). messageOf d u t (roomOf values)) he ∙ ap (λ (u : Table). messageOf d (expectedOf x) u (roomOf values)) ht
+
+-- a writing of what numbers stand for
+module _ (types values buf old : List ℕ) (f : Fields) (form : Form) where
+  pub write-as : (h : Header) (rows : List Row) (t : Table) (w : Written) (after : List ℕ) (s : Sent) → h ≡ headerOf f → rows ≡ rowsOf values
+      → t ≡ tableOf form types
+      → (w ≡ messageWriting h rows (roomOf values) t buf (length old)) × (after ≡ messageOutput h rows (roomOf values) t buf old)
+      → s ≡ sentIs (w .verdict) (w .len)
+      → (s ≡ sentOf (messageWriting (headerOf f) (rowsOf values) (roomOf values) (tableOf form types) buf (length old)))
+      × (after ≡ messageOutput (headerOf f) (rowsOf values) (roomOf values) (tableOf form types) buf old)
+  write-as h rows t w after s hh hr ht both e =
+      (e ∙ ap sentOf (both .0 ∙ answer), both .1 ∙ output)
+    where
+      answer : messageWriting h rows (roomOf values) t buf (length old)
+          ≡ messageWriting (headerOf f) (rowsOf values) (roomOf values) (tableOf form types) buf (length old)
+      answer = rw (hh, hr, ht)
+
+      output : messageOutput h rows (roomOf values) t buf old ≡ messageOutput (headerOf f) (rowsOf values) (roomOf values) (tableOf form types) buf old
+      output = rw (hh, hr, ht)

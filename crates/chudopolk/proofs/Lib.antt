@@ -1,3 +1,4 @@
 mod TableLaws
 mod RowLaws
 mod HeadLaws
+mod ValueLaws

@@ -6,11 +6,15 @@ use Rattle.wire.specs.declared.verdict.Verdict.{Verdict}
 use Rattle.wire.specs.declared.verdict.ReturnCode.{ReturnCode}
 use Rattle.wire.specs.declared.verdict.ReturnCode.the-variants.{Code, None}
 use Rattle.wire.specs.Verdict.{verdictNumber, returnCode}
+use Rattle.payload.specs.declared.write.Written.{Written}
+use Rattle.message.specs.declared.header.Header.{Header}
 use Rattle.message.specs.declared.read.Expected.{Expected}
 use Rattle.message.specs.declared.read.Head.{Head}
 use Rattle.message.specs.declared.read.MessageReading.{MessageReading}
 use Rattle.chudopolk.specs.declared.head.Expectation.{Expectation}
 use Rattle.chudopolk.specs.declared.head.Answer.{Answer}
+use Rattle.chudopolk.specs.declared.head.Fields.{Fields}
+use Rattle.chudopolk.specs.declared.head.Sent.{Sent}
 use Rattle.chudopolk.specs.Rows.{flat}
 
 -- ---- reading
@@ -50,3 +54,23 @@ roomOf values = length values / 4
 -- The first rows, as many as the reading sets, are the reading's; the numbers beyond stay as they were.
 abbrev pub valuesAfter : MessageReading → List ℕ → List ℕ
 valuesAfter m old = flat (take (m .reading .filled) (m .reading .rows)) ++ drop (4 * m .reading .filled) old
+
+-- ---- writing
+
+abbrev pub headerOf : Fields → Header
+headerOf f =
+    record {
+      service = record { 0 = f .service };
+      method = record { 0 = f .method };
+      client = record { 0 = f .client };
+      session = record { 0 = f .session };
+      interface = f .interface;
+      kind = record { 0 = f .kind };
+      code = f .code;
+    }
+
+abbrev pub sentIs : Verdict → ℕ → Sent
+sentIs v len = record { verdict = verdictNumber v; len = len }
+
+abbrev pub sentOf : Written → Sent
+sentOf w = sentIs (w .verdict) (w .len)

@@ -2,9 +2,12 @@
 -- run of bytes. A number that a row's value doesn't use is 0.
 use Prim.Native.Nat.{ℕ, zero, suc, _+_, _*_, _/_, _%_}
 use mathlib.Core.List.{List, [], _∷_, _++_}
-use lib.ListN.{length, take, drop, getD, set, replicate}
+use lib.ListN.{length, getD, set, replicate}
+use lib.Dec.{ltb, eqb}
+use lib.Ieee.{binary32, binary64, ofBits}
 use Rattle.wire.specs.Choose.{pick}
 use Rattle.wire.specs.Number.{twosOf, signedOf}
+use Rattle.payload.specs.Row.{plain, absentRow, membersRow}
 use Rattle.payload.specs.declared.row.Row.{Row}
 use Rattle.payload.specs.declared.row.Value.{Value}
 use Rattle.payload.specs.declared.row.Value.the-variants.{Absent, Unsigned, Signed, Float32, Float64, Bytes, Members}
@@ -32,3 +35,44 @@ listed n = n .what ∷ n .number ∷ n .place ∷ n .len ∷ []
 unfoldable pub flat : List Row → List ℕ
 flat [] = []
 flat (r ∷ rows) = listed (numbersOf (r .value) (r .bits)) ++ flat rows
+
+-- ---- for a writing
+
+-- A float's value is that of its bits. A float32 whose bits are 2^32 or more is of no kind: it gets verdict 30.
+abbrev pub float32Row : ℕ → Row
+float32Row bits = record { value = Float32 (ofBits binary32 (bits % 4294967296)); bits = bits }
+
+abbrev pub float64Row : ℕ → Row
+float64Row bits = record { value = Float64 (ofBits binary64 bits); bits = bits }
+
+-- the row of a first number that says no value: of no kind
+abbrev pub oddRow : Row
+oddRow = float32Row 4294967296
+
+-- The numbers are those of a reading, and numbers that the value doesn't use are ignored.
+unfoldable pub rowOf : ℕ → ℕ → ℕ → ℕ → Row
+rowOf what number place len =
+    pick (eqb what 0) absentRow
+    (pick (eqb what 1) (plain (Unsigned number))
+    (pick (eqb what 2) (plain (Signed (signedOf 8 number)))
+    (pick (eqb what 3) (float32Row number)
+    (pick (eqb what 4) (float64Row number)
+    (pick (eqb what 5) (plain (Bytes place len))
+    (pick (eqb what 6) membersRow
+    oddRow))))))
+
+-- the row of the four numbers at 4 · i
+abbrev pub rowAt : List ℕ → ℕ → Row
+rowAt values i = rowOf (getD values (4 * i) 0) (getD values (4 * i + 1) 0) (getD values (4 * i + 2) 0) (getD values (4 * i + 3) 0)
+
+-- the first n rows, and behind them absent ones
+unfoldable pub rowsUpTo : ℕ → List ℕ → List Row
+rowsUpTo zero values = replicate 64 absentRow
+rowsUpTo (suc n) values = set (rowsUpTo n values) n (rowAt values n)
+
+-- how many rows so many numbers lend, 64 at most
+unfoldable pub lentOf : ℕ → ℕ
+lentOf len = pick (ltb 64 (len / 4)) 64 (len / 4)
+
+unfoldable pub rowsOf : List ℕ → List Row
+rowsOf values = rowsUpTo (lentOf (length values)) values

@@ -1,9 +1,12 @@
 // What crosses beside rows and bytes: what is expected of a header, the fields of one to write, and the answers.
 
 ghost use mathlib.Core.Path.{_≡_};
-ghost use Rattle.chudopolk.specs.Head.{expectedOf, codeNumber, answerIs};
+ghost use Rattle.chudopolk.specs.Head.{expectedOf, codeNumber, answerIs, headerOf, sentIs};
+use message::header::Header;
+use message::id::ClientId;
 use message::id::MethodId;
 use message::id::ServiceId;
+use message::id::SessionId;
 use message::message_type::MessageType;
 use message::read::Expected;
 use message::read::Head;
@@ -34,6 +37,25 @@ pub struct Answer {
     pub payload_len: usize,
     pub rest_at: usize,
     pub rest_len: usize,
+}
+
+// The fields of a header to write: all but Length and Protocol Version. `kind` is the Message Type.
+#[repr(C)]
+pub struct Fields {
+    pub service: u16,
+    pub method: u16,
+    pub client: u16,
+    pub session: u16,
+    pub interface: u8,
+    pub kind: u8,
+    pub code: u8,
+}
+
+// The answer to a writing: the verdict, and the message's length, 0 on refusal.
+#[repr(C)]
+pub struct Sent {
+    pub verdict: u32,
+    pub len: usize,
 }
 
 // What the message reader expects.
@@ -74,5 +96,30 @@ pub fn answer_of(h: Head, v: Verdict, place: usize, skipped: usize) -> Answer
         payload_len: h.payload.len,
         rest_at: h.rest.at,
         rest_len: h.rest.len,
+    }
+}
+
+// The header that the message writer is handed.
+pub fn header_of(f: Fields) -> Header
+    ensures { λ r. ⌜ r ≡ headerOf f ⌝ }
+{
+    Header {
+        service: ServiceId(f.service),
+        method: MethodId(f.method),
+        client: ClientId(f.client),
+        session: SessionId(f.session),
+        interface: f.interface,
+        kind: MessageType(f.kind),
+        code: f.code,
+    }
+}
+
+// The answer to a writing.
+pub fn sent_of(v: Verdict, len: usize) -> Sent
+    ensures { λ r. ⌜ r ≡ sentIs v len ⌝ }
+{
+    Sent {
+        verdict: v.number() as u32,
+        len: len,
     }
 }

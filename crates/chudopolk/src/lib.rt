@@ -8,13 +8,19 @@ mod rows;
 mod table;
 
 ghost use mathlib.Core.Path.{_≡_};
+ghost use lib.ListN.{length};
 ghost use Rattle.payload.specs.Table.{tableFits};
 ghost use Rattle.message.specs.Reading.{messageOf};
 ghost use Rattle.chudopolk.specs.Table.{tableOf, tableVerdict};
-ghost use Rattle.chudopolk.specs.Head.{expectedOf, answerOf, roomOf, valuesAfter};
+ghost use Rattle.message.specs.Writing.{messageWriting, messageOutput};
+ghost use Rattle.chudopolk.specs.Rows.{rowsOf};
+ghost use Rattle.chudopolk.specs.Head.{expectedOf, answerOf, roomOf, valuesAfter, headerOf, sentOf};
 use head::Answer;
 use head::Expectation;
+use head::Fields;
+use head::Sent;
 use message::read;
+use message::write;
 use payload::table as payload_table;
 use table::Form;
 
@@ -49,4 +55,25 @@ pub extern "C" fn chudopolk_read_message(
     rows::put_rows(values, all, got.filled);
     let v = got.verdict;
     head::answer_of(m.head, v, got.place, got.skipped)
+}
+
+// Writes the message of a header and of lent value rows from the output's start. A refusal changes no byte.
+#[no_mangle]
+pub extern "C" fn chudopolk_write_message(
+    header: Fields,
+    form: Form,
+    types: &[u64],
+    values: &[u64],
+    content: &[u8],
+    out: &mut [u8],
+) -> Sent
+    ensures { λ r. ⌜ (r ≡ sentOf (messageWriting (headerOf header) (rowsOf (now (values .entry))) (roomOf (now (values .entry))) (tableOf form (now (types .entry))) (now (content .entry)) (length (now (out .entry)))))
+        × (now (out .exit) ≡ messageOutput (headerOf header) (rowsOf (now (values .entry))) (roomOf (now (values .entry))) (tableOf form (now (types .entry))) (now (content .entry)) (now (out .entry))) ⌝ }
+{
+    let h = head::header_of(header);
+    let all = rows::rows_of(values);
+    let t = table::table_of(form, types);
+    let w = write::write_by_value(h, all, values.len() / 4, t, content, out);
+    let v = w.verdict;
+    head::sent_of(v, w.len)
 }
