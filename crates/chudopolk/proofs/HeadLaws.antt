@@ -3,6 +3,7 @@
 use mathlib.Core.Path.{_≡_, refl, sym, ap, _∙_}
 use Prim.Native.Nat.{ℕ, _*_, _/_, _≤_}
 use native.Mathlib.Omega.{arith}
+use mathlib.Core.Bool.{Bool, true}
 use mathlib.Core.List.{List}
 use lib.ListN.{length}
 use Rattle.payload.specs.declared.table.Table.{Table}
@@ -14,6 +15,8 @@ use Rattle.message.specs.declared.read.MessageReading.{MessageReading}
 use Rattle.message.specs.Reading.{messageOf}
 use Rattle.message.specs.Writing.{messageWriting, messageOutput}
 use Rattle.message.proofs.Promises.{sets-rows}
+use Rattle.wire.specs.Choose.{pick}
+use Rattle.payload.specs.Outcome.{changesNone}
 use Rattle.chudopolk.specs.declared.table.Form.{Form}
 use Rattle.chudopolk.specs.declared.head.Expectation.{Expectation}
 use Rattle.chudopolk.specs.declared.head.Fields.{Fields}
@@ -21,6 +24,8 @@ use Rattle.chudopolk.specs.declared.head.Sent.{Sent}
 use Rattle.chudopolk.specs.Table.{tableOf}
 use Rattle.chudopolk.specs.Rows.{rowsOf}
 use Rattle.chudopolk.specs.Head.{expectedOf, roomOf, headerOf, sentIs, sentOf}
+use Rattle.chudopolk.specs.Promises.{ValuesKept, HandsValues, OneRead, OneWrite}
+use Rattle.chudopolk.proofs.RowLaws.{flat-none, after-long, after-row, after-rest}
 
 -- the rows that a reading sets are there, and so is room for them
 pub rows-in : (d : List ℕ) (e : Expected) (t : Table) (values : List ℕ) (m : MessageReading) → m ≡ messageOf d e t (roomOf values)
@@ -52,3 +57,29 @@ module _ (types values buf old : List ℕ) (f : Fields) (form : Form) where
 
       output : messageOutput h rows (roomOf values) t buf old ≡ messageOutput (headerOf f) (rowsOf values) (roomOf values) (tableOf form types) buf old
       output = rw (hh, hr, ht)
+
+-- ---- what a reading leaves
+
+kept-by : (m : MessageReading) (old : List ℕ) → (m .reading .filled ≤ 64) × (length (m .reading .rows) ≡ 64) × (4 * m .reading .filled ≤ length old)
+    → (changesNone (m .reading .verdict) ≡ true → m .reading .filled ≡ 0) → ValuesKept m old
+kept-by m old fits none =
+    let few : m .reading .filled ≤ length (m .reading .rows) = omega (arith, fits .0, fits .1) in
+    record {
+      as-many = after-long (m .reading .rows) old (m .reading .filled) few (fits .2);
+      none-changed = λ h. rw (none h) (sym (flat-none old));
+      each-row = after-row (m .reading .rows) old (m .reading .filled) few (fits .2);
+      beyond-stay = after-rest (m .reading .rows) old (m .reading .filled) few (fits .2);
+    }
+
+pub hands-values : HandsValues
+hands-values d e t old =
+    let m = messageOf d e t (roomOf old) in
+    kept-by m old (rows-in d e t old m refl) (λ h. sets-rows d e t (roomOf old) .set-rows ∙ ap (λ (b : Bool). pick b 0 (t .count)) h)
+
+-- ---- one answer
+
+pub one-read : OneRead
+one-read d types old x form r s after other p q = (p .0 ∙ sym (q .0), p .1 ∙ sym (q .1))
+
+pub one-write : OneWrite
+one-write types values buf old f form r s after other p q = (p .0 ∙ sym (q .0), p .1 ∙ sym (q .1))

@@ -2,3 +2,5 @@ mod TableLaws
 mod RowLaws
 mod HeadLaws
 mod ValueLaws
+mod Kept
+pub mod Promises

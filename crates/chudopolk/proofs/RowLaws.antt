@@ -6,7 +6,7 @@ use native.Mathlib.Omega.{arith}
 use native.Mathlib.Numerals.{add-one}
 use mathlib.Core.List.{List, [], _∷_, _++_, append-assoc, append-nil}
 use lib.ListN.{length, take, drop, getD, set, length-append, length-drop}
-use lib.Seq.{sets, sets-eq, take-suc, take-at, drop-append-add, drop-drop, length-take-le}
+use lib.Seq.{sets, sets-eq, take-suc, take-at, drop-at, drop-append-add, drop-drop, length-take-le, getD-take}
 use Rattle.payload.specs.declared.row.Row.{Row}
 use Rattle.payload.specs.declared.row.Value.{Value}
 use Rattle.payload.specs.Row.{absentRow}
@@ -81,3 +81,26 @@ pub flat-long : (rows : List Row) (old out : List ℕ) (i : ℕ) → i ≤ lengt
 flat-long rows old out i h room e =
     let size : length (flat (take i rows)) ≡ 4 * i = length-flat (take i rows) ∙ ap (λ (k : ℕ). 4 * k) (length-take-le i rows h) in
     rw e (omega (arith, length-append (flat (take i rows)) (drop (4 * i) old), length-drop (4 * i) old))
+
+-- ---- by row
+
+flat-at : (rows : List Row) (i : ℕ) (rest : List ℕ) → i < length rows → take 4 (drop (4 * i) (flat rows ++ rest)) ≡ four (getD rows i absentRow)
+unfolding flat
+flat-at [] i rest h = absurd (omega arith)
+flat-at (r ∷ rows) zero rest h = refl
+flat-at (r ∷ rows) (suc i) rest h =
+    let four-on : 4 * suc i ≡ suc (suc (suc (suc (4 * i)))) = omega arith in
+    rw four-on (flat-at rows i rest (omega arith))
+
+-- the numbers of the first n rows, with old ones behind them
+module _ (rows : List Row) (old : List ℕ) (n : ℕ) (few : n ≤ length rows) (room : 4 * n ≤ length old) where
+  pub after-long : length (flat (take n rows) ++ drop (4 * n) old) ≡ length old
+  after-long = flat-long rows old (flat (take n rows) ++ drop (4 * n) old) n few room refl
+
+  pub after-row : (i : ℕ) → i < n → take 4 (drop (4 * i) (flat (take n rows) ++ drop (4 * n) old)) ≡ four (getD rows i absentRow)
+  after-row i h =
+      flat-at (take n rows) i (drop (4 * n) old) (omega (arith, length-take-le n rows few)) ∙ ap four (getD-take n rows i absentRow h)
+
+  pub after-rest : drop (4 * n) (flat (take n rows) ++ drop (4 * n) old) ≡ drop (4 * n) old
+  after-rest =
+      drop-at (flat (take n rows)) (drop (4 * n) old) (4 * n) (length-flat (take n rows) ∙ ap (λ (k : ℕ). 4 * k) (length-take-le n rows few))

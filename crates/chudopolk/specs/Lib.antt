@@ -1,3 +1,4 @@
 pub mod Table
 pub mod Rows
 pub mod Head
+pub mod Promises

@@ -1,0 +1,24 @@
+-- The promises of specs/Promises.antt, each by the law that shows it.
+-- Assumes nothing.
+use Rattle.chudopolk.specs.Promises.{TablesKept, WildUnfit, HandsRows, HandsValues, OneRead, OneWrite}
+use Rattle.chudopolk.proofs.Kept as table
+use Rattle.chudopolk.proofs.ValueLaws as value
+use Rattle.chudopolk.proofs.HeadLaws as head
+
+pub tables-kept : TablesKept
+tables-kept = table.tables-kept
+
+pub wild-unfit : WildUnfit
+wild-unfit = value.wild-unfit
+
+pub hands-rows : HandsRows
+hands-rows = value.hands-rows
+
+pub hands-values : HandsValues
+hands-values = head.hands-values
+
+pub one-read : OneRead
+one-read = head.one-read
+
+pub one-write : OneWrite
+one-write = head.one-write
