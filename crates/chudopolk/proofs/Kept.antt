@@ -1,21 +1,21 @@
 -- A table that is accepted has the caller's numbers.
 -- Assumes nothing.
-use mathlib.Core.Path.{_≡_, refl, sym, ap, _∙_}
+use mathlib.Core.Path.{_≡_, refl, ap, _∙_}
 use Prim.Native.Nat.{ℕ, zero, suc, _+_, _*_, _≤_, _<_}
 use native.Mathlib.Omega.{arith}
 use mathlib.Core.Bool.{Bool, true, false, false≢true}
 use mathlib.Core.List.{List}
-use lib.ListN.{length, take, getD, set}
+use lib.ListN.{length, getD, set}
 use lib.Seq.{getD-set-same, getD-set-other, getD-take}
 use lib.Dec.{leb, eqb}
 use borrow.Author.Tests.{leb-true, eqb-true, eqb-false}
 use Rattle.wire.specs.Choose.{pick, and}
 use Rattle.payload.specs.declared.table.TypeRow.{TypeRow}
-use Rattle.payload.specs.Table.{noRow, typeRows, rowAt as typeAt, tableFits, TableRules}
+use Rattle.payload.specs.Table.{noRow, TableRules}
 use Rattle.payload.proofs.Promises.{table-decided}
 use Rattle.chudopolk.specs.declared.table.Form.{Form}
 use Rattle.chudopolk.specs.Table.{rowHolds, typeRowOf, typeRowAt, typeRowsOf, takenOf, tableOf}
-use Rattle.chudopolk.specs.Promises.{RowKept, TableKept, TablesKept}
+use Rattle.chudopolk.specs.Promises.{RowKept, TablesKept}
 use Rattle.chudopolk.proofs.TableLaws.{length-typeRowsOf, taken-within}
 
 pub and-right : (a b : Bool) → and a b ≡ true → b ≡ true

@@ -4,7 +4,7 @@ use mathlib.Core.Path.{_≡_, refl, sym, ap, _∙_}
 use Prim.Native.Nat.{ℕ, zero, suc, _+_, _*_, _≤_, _<_}
 use native.Mathlib.Omega.{arith}
 use native.Mathlib.Numerals.{add-one}
-use mathlib.Core.List.{List, [], _∷_, _++_, append-assoc, append-nil}
+use mathlib.Core.List.{List, [], _∷_, _++_}
 use lib.ListN.{length, take, drop, getD, set, length-append, length-drop}
 use lib.Seq.{sets, sets-eq, take-suc, take-at, drop-at, drop-append-add, drop-drop, length-take-le, getD-take}
 use Rattle.payload.specs.declared.row.Row.{Row}

@@ -172,5 +172,5 @@ pub wild-unfit : WildUnfit
 wild-unfit w n p l over buf upto r types rows =
     let no : (k : ℕ) → k ≤ 6 → w ≡ k → ⊥ = λ k m e. omega arith in
     let odd : oddRow ≡ rowOf w n p l =
-        row-odd w n p l (no 0 (omega arith)) (no 1 (omega arith)) (no 2 (omega arith)) (no 3 (omega arith)) (no 4 (omega arith)) (no 5 (omega arith)) (no 6 (omega arith)) in
+    row-odd w n p l (no 0 (omega arith)) (no 1 (omega arith)) (no 2 (omega arith)) (no 3 (omega arith)) (no 4 (omega arith)) (no 5 (omega arith)) (no 6 (omega arith)) in
     rw (← odd) (odd-unfit buf upto r types rows)

@@ -1,26 +1,20 @@
+-- `chudopolk::chudopolk_check_table` meets its contract: the library's own check, of the table that the numbers stand for.
+-- Assumes nothing.
 use mathlib.Core.Bool.{true, false}
 use Rattle.chudopolk.proofs.TableLaws.{table-answered}
 use borrow.Author.Needs.{needs}
 use Rattle.chudopolk.proofs.chudopolk_check_table.Statement.{statement}
 use Rattle.chudopolk.proofs.chudopolk_check_table.Tie as tie
-use Rattle.chudopolk.proofs.chudopolk_check_table.Reads as reads
-use Rattle.chudopolk.proofs.chudopolk_check_table.Lts as lts
-use Rattle.chudopolk.proofs.table.table_of.Reads as table-of-reads
-use Rattle.payload.proofs.table.table_fits.Reads as table-fits-reads
 
--- src/lib.rt:20:26
 table-of-requires : tie.Need-table-of-requires
 table-of-requires c κs = search needs
 
--- src/lib.rt:20:8
 table-fits-requires : tie.Need-table-fits-requires
 table-fits-requires c κs = search needs
 
--- src/lib.rt:21:9
 returns : tie.Need-returns
 returns c = table-answered _ _ _ true (c .before .before .table-of .ensures) (c .before .table-fits .ensures) (c .if1 .taken)
 
--- src/lib.rt:16:1
 returns-2 : tie.Need-returns-2
 returns-2 c = table-answered _ _ _ false (c .before .before .table-of .ensures) (c .before .table-fits .ensures) (c .if1 .left)
 

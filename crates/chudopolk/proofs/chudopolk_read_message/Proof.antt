@@ -1,3 +1,5 @@
+-- `chudopolk::chudopolk_read_message` meets its contract: the library's own reading, under what the numbers stand for. Its rows fit by what `message` promises.
+-- Assumes nothing.
 use mathlib.Core.Path.{ap, _∙_}
 use denote.Ref.{now}
 use Rattle.message.specs.declared.read.MessageReading.{MessageReading}
@@ -6,41 +8,27 @@ use Rattle.chudopolk.proofs.HeadLaws.{rows-in, read-as}
 use borrow.Author.Needs.{needs}
 use Rattle.chudopolk.proofs.chudopolk_read_message.Statement.{statement}
 use Rattle.chudopolk.proofs.chudopolk_read_message.Tie as tie
-use Rattle.chudopolk.proofs.chudopolk_read_message.Reads as reads
-use Rattle.chudopolk.proofs.chudopolk_read_message.Lts as lts
-use Rattle.chudopolk.proofs.head.answer_of.Reads as answer-of-reads
-use Rattle.chudopolk.proofs.head.expected_of.Reads as expected-of-reads
-use Rattle.chudopolk.proofs.rows.put_rows.Reads as put-rows-reads
-use Rattle.chudopolk.proofs.table.table_of.Reads as table-of-reads
-use Rattle.message.proofs.read.read_by_value.Reads as read-by-value-reads
 
--- src/lib.rt:44:9
 table-of-requires : tie.Need-table-of-requires
 table-of-requires c κs = search needs
 
--- src/lib.rt:45:9
 expected-of-requires : tie.Need-expected-of-requires
 expected-of-requires c κs = search needs
 
--- src/lib.rt:46:9
 read-by-value-requires : tie.Need-read-by-value-requires
 read-by-value-requires c κs = search needs
 
--- src/lib.rt:49:5
 put-rows-requires : tie.Need-put-rows-requires
 put-rows-requires c κs =
     let start = c .before .before .before .before .before .before .before .before .before in
     rows-in _ _ _ (now (start .args .values)) _ (c .before .before .before .read-by-value .ensures)
 
--- src/lib.rt:51:5
 answer-of-requires : tie.Need-answer-of-requires
 answer-of-requires c κs = search needs
 
--- src/lib.rt:33:1
 same-length : tie.Need-same-length
 same-length c = search needs
 
--- src/lib.rt:33:1
 returns : tie.Need-returns
 returns c =
     let c7 = c .before .before .before .before .before .before .before in

@@ -1,41 +1,29 @@
+-- `chudopolk::chudopolk_write_message` meets its contract: the library's own writing of what the numbers stand for.
+-- Assumes nothing.
 use denote.Ref.{now}
 use Rattle.chudopolk.proofs.HeadLaws.{write-as}
 use borrow.Author.Needs.{needs}
 use Rattle.chudopolk.proofs.chudopolk_write_message.Statement.{statement}
 use Rattle.chudopolk.proofs.chudopolk_write_message.Tie as tie
-use Rattle.chudopolk.proofs.chudopolk_write_message.Reads as reads
-use Rattle.chudopolk.proofs.chudopolk_write_message.Lts as lts
-use Rattle.chudopolk.proofs.head.header_of.Reads as header-of-reads
-use Rattle.chudopolk.proofs.head.sent_of.Reads as sent-of-reads
-use Rattle.chudopolk.proofs.rows.rows_of.Reads as rows-of-reads
-use Rattle.chudopolk.proofs.table.table_of.Reads as table-of-reads
-use Rattle.message.proofs.write.write_by_value.Reads as write-by-value-reads
 
--- src/lib.rt:73:9
 header-of-requires : tie.Need-header-of-requires
 header-of-requires c κs = search needs
 
--- src/lib.rt:74:9
 rows-of-requires : tie.Need-rows-of-requires
 rows-of-requires c κs = search needs
 
--- src/lib.rt:75:9
 table-of-requires : tie.Need-table-of-requires
 table-of-requires c κs = search needs
 
--- src/lib.rt:76:9
 write-by-value-requires : tie.Need-write-by-value-requires
 write-by-value-requires c κs = search needs
 
--- src/lib.rt:78:5
 sent-of-requires : tie.Need-sent-of-requires
 sent-of-requires c κs = search needs
 
--- src/lib.rt:61:1
 same-length : tie.Need-same-length
 same-length c = search needs
 
--- src/lib.rt:61:1
 returns : tie.Need-returns
 returns c =
     let wrote = c .before .before .before in

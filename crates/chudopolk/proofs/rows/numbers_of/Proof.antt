@@ -1,3 +1,5 @@
+-- `chudopolk::rows::numbers_of` meets its contract, case by case.
+-- Assumes nothing.
 use mathlib.Core.Path.{refl, ap, _∙_}
 use mir.Syntax.{w64}
 use mir.Facts.{toZ-ofZ}
@@ -7,76 +9,55 @@ use Rattle.chudopolk.proofs.RowLaws.{shown}
 use borrow.Author.Needs.{needs}
 use Rattle.chudopolk.proofs.rows.numbers_of.Statement.{statement}
 use Rattle.chudopolk.proofs.rows.numbers_of.Tie as tie
-use Rattle.chudopolk.proofs.rows.numbers_of.Reads as reads
-use Rattle.chudopolk.proofs.rows.numbers_of.Lts as lts
-use Rattle.chudopolk.proofs.rows.numbered.Reads as numbered-reads
-use Rattle.wire.proofs.number.twos_of.Reads as twos-of-reads
 
--- src/rows.rt:42:26
 enum-told : tie.Need-enum-told
 enum-told c = search needs
 
--- src/rows.rt:42:26
 numbered-requires : tie.Need-numbered-requires
 numbered-requires c κs = search needs
 
--- src/rows.rt:43:25
 enum-known-v : tie.Need-enum-known-v
 enum-known-v c = search needs
 
--- src/rows.rt:43:31
 numbered-requires-2 : tie.Need-numbered-requires-2
 numbered-requires-2 c κs = search needs
 
--- src/rows.rt:44:23
 enum-known-v-2 : tie.Need-enum-known-v-2
 enum-known-v-2 c = search needs
 
--- src/rows.rt:44:41
 twos-of-requires : tie.Need-twos-of-requires
 twos-of-requires c κs = search needs
 
--- src/rows.rt:44:29
 numbered-requires-3 : tie.Need-numbered-requires-3
 numbered-requires-3 c κs = search needs
 
--- src/rows.rt:45:30
 enum-told-2 : tie.Need-enum-told-2
 enum-told-2 c = search needs
 
--- src/rows.rt:45:30
 numbered-requires-4 : tie.Need-numbered-requires-4
 numbered-requires-4 c κs = search needs
 
--- src/rows.rt:46:30
 enum-told-3 : tie.Need-enum-told-3
 enum-told-3 c = search needs
 
--- src/rows.rt:46:30
 numbered-requires-5 : tie.Need-numbered-requires-5
 numbered-requires-5 c κs = search needs
 
--- src/rows.rt:47:24
 enum-known-v-3 : tie.Need-enum-known-v-3
 enum-known-v-3 c = search needs
 
--- src/rows.rt:53:27
 enum-told-4 : tie.Need-enum-told-4
 enum-told-4 c = search needs
 
--- src/rows.rt:53:27
 numbered-requires-6 : tie.Need-numbered-requires-6
 numbered-requires-6 c κs = search needs
 
--- src/rows.rt:37:1
 returns : tie.Need-returns
 returns c = shown _ _ _ _ (c .before .enum-told .given .1) (c .numbered .ensures)
 
--- src/rows.rt:37:1
 returns-2 : tie.Need-returns-2
 returns-2 c = shown _ _ _ _ (c .before .before .v .given .1) (c .numbered2 .ensures)
 
--- src/rows.rt:37:1
 returns-3 : tie.Need-returns-3
 returns-3 c =
     let z = c .before .before .before .v2 .given .0 .0 in
@@ -84,19 +65,15 @@ returns-3 c =
     (c .numbered3 .ensures
     ∙ ap (numbered 2) (c .before .twos-of .ensures ∙ ap (twosOf 8) (toZ-ofZ {w = w64} {z = z} (record { sfits = c .before .before .known-told2 .given .0 .1 }))))
 
--- src/rows.rt:37:1
 returns-4 : tie.Need-returns-4
 returns-4 c = shown _ _ _ _ (c .before .enum-told2 .given .1) (c .numbered4 .ensures)
 
--- src/rows.rt:37:1
 returns-5 : tie.Need-returns-5
 returns-5 c = shown _ _ _ _ (c .before .enum-told3 .given .1) (c .numbered5 .ensures)
 
--- src/rows.rt:37:1
 returns-6 : tie.Need-returns-6
 returns-6 c = shown _ _ _ _ (c .before .v3 .given .1) refl
 
--- src/rows.rt:37:1
 returns-7 : tie.Need-returns-7
 returns-7 c = shown _ _ _ _ (c .before .enum-told4 .given .1) (c .numbered6 .ensures)
 

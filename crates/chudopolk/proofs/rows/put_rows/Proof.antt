@@ -1,3 +1,5 @@
+-- `chudopolk::rows::put_rows` meets its contract. The loop's invariant: the numbers of the first i rows are stored, and the old ones stand behind them.
+-- Assumes nothing.
 use mathlib.Core.Path.{_≡_, ap, _∙_}
 use Prim.Native.Nat.{ℕ, _≤_, _-_, _*_}
 use mathlib.Core.List.{_++_}
@@ -8,10 +10,6 @@ use Rattle.chudopolk.specs.Rows.{flat}
 use Rattle.chudopolk.proofs.RowLaws.{flat-none, flat-more, flat-long}
 use Rattle.chudopolk.proofs.rows.put_rows.Statement.{statement}
 use Rattle.chudopolk.proofs.rows.put_rows.Tie as tie
-use Rattle.chudopolk.proofs.rows.put_rows.Reads as reads
-use Rattle.chudopolk.proofs.rows.put_rows.Lts as lts
-use Rattle.chudopolk.proofs.rows.numbers_of.Reads as numbers-of-reads
-use Rattle.chudopolk.proofs.rows.put_row.Reads as put-row-reads
 
 abbrev Inv-loop : tie.InvT-loop
 Inv-loop out₀ n rows i₀ out i = (i ≤ n) × (out ≡ flat (take i rows) ++ drop (4 * i) out₀)
@@ -19,27 +17,21 @@ Inv-loop out₀ n rows i₀ out i = (i ≤ n) × (out ≡ flat (take i rows) ++ 
 abbrev μ-loop : tie.MeasureT-loop
 μ-loop out₀ n rows i₀ out i = n - i
 
--- src/rows.rt:74:5
 loop-holds : tie.Need-loop-holds Inv-loop μ-loop
 loop-holds c = (omega arith, flat-none _)
 
--- src/rows.rt:75:30
 mul-numbers-of : tie.Need-mul-numbers-of Inv-loop μ-loop
 mul-numbers-of c = search needs
 
--- src/rows.rt:75:30
 array-copy-out-numbers-of : tie.Need-array-copy-out-numbers-of Inv-loop μ-loop
 array-copy-out-numbers-of c = search needs
 
--- src/rows.rt:75:13
 numbers-of-requires : tie.Need-numbers-of-requires Inv-loop μ-loop
 numbers-of-requires c κs = search needs
 
--- src/rows.rt:76:22
 mul-put-row : tie.Need-mul-put-row Inv-loop μ-loop
 mul-put-row c = search needs
 
--- src/rows.rt:76:9
 put-row-requires : tie.Need-put-row-requires Inv-loop μ-loop
 put-row-requires c κs =
     let c5 = c .before .before .before .before .before in
@@ -48,15 +40,12 @@ put-row-requires c κs =
     let long : length (loop .out) ≡ length (c6 .args .out .now) = flat-long (c6 .args .t2) _ _ (loop .i) (omega (arith, c6 .pre .1)) (omega arith) (loop .inv .1) in
     omega arith
 
--- src/rows.rt:77:9
 add-i : tie.Need-add-i Inv-loop μ-loop
 add-i c = search needs
 
--- src/rows.rt:74:5
 loop-less : tie.Need-loop-less Inv-loop μ-loop
 loop-less c = search needs
 
--- src/rows.rt:74:5
 loop-again : tie.Need-loop-again Inv-loop μ-loop
 loop-again c =
     let c7 = c .before .before .before .before .before .before .before in
@@ -67,13 +56,11 @@ loop-again c =
           ∙ flat-more (c9 .args .t2) (c9 .args .out .now) (c7 .loop .out) (c7 .loop .i) (numbers .result) (omega (arith, c9 .pre .1)) (omega arith) (c7 .loop .inv .1) (numbers .ensures),
     )
 
--- src/rows.rt:69:1
 same-length : tie.Need-same-length Inv-loop μ-loop
 same-length c =
     let c3 = c .before .before .before in
     flat-long (c3 .args .t2) _ _ (c .before .loop .i) (omega (arith, c3 .pre .1)) (omega arith) (c .before .loop .inv .1)
 
--- src/rows.rt:69:1
 returns : tie.Need-returns Inv-loop μ-loop
 returns c =
     let c3 = c .before .before .before in

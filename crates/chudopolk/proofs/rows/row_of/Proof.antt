@@ -1,3 +1,5 @@
+-- `chudopolk::rows::row_of` meets its contract. Each return goes by the test that led there.
+-- Assumes nothing.
 use mathlib.Core.Path.{_∙_}
 use borrow.Author.Needs.{sfits-of}
 use mir.Facts.{toZ-ofZ}
@@ -5,78 +7,55 @@ use Rattle.chudopolk.proofs.ValueLaws.{row-absent, row-unsigned, row-si
 use borrow.Author.Needs.{needs}
 use Rattle.chudopolk.proofs.rows.row_of.Statement.{statement}
 use Rattle.chudopolk.proofs.rows.row_of.Tie as tie
-use Rattle.chudopolk.proofs.rows.row_of.Reads as reads
-use Rattle.chudopolk.proofs.rows.row_of.Lts as lts
-use Rattle.chudopolk.proofs.rows.float32_row.Reads as float32-row-reads
-use Rattle.chudopolk.proofs.rows.float64_row.Reads as float64-row-reads
-use Rattle.chudopolk.proofs.rows.plain.Reads as plain-reads
-use Rattle.wire.proofs.number.signed_of.Reads as signed-of-reads
 
--- src/rows.rt:115:9
 plain-requires : tie.Need-plain-requires
 plain-requires c κs = search needs
 
--- src/rows.rt:115:9
 returns : tie.Need-returns
 returns c = c .plain .ensures ∙ row-absent _ _ _ _ (c .before .if1 .taken)
 
--- src/rows.rt:118:9
 plain-requires-2 : tie.Need-plain-requires-2
 plain-requires-2 c κs = search needs
 
--- src/rows.rt:118:9
 returns-2 : tie.Need-returns-2
 returns-2 c = c .plain2 .ensures ∙ row-unsigned _ _ _ _ (c .before .if2 .taken)
 
--- src/rows.rt:121:36
 signed-of-requires : tie.Need-signed-of-requires
 signed-of-requires c κs = search needs
 
--- src/rows.rt:121:9
 plain-requires-3 : tie.Need-plain-requires-3
 plain-requires-3 c κs = search needs
 
--- src/rows.rt:121:9
 returns-3 : tie.Need-returns-3
 returns-3 c = c .plain3 .ensures ∙ rw (toZ-ofZ (sfits-of (c .before .signed-of .ok)), c .before .signed-of .ensures) (row-signed _ _ _ _ (c .before .before .if3 .taken))
 
--- src/rows.rt:124:9
 float32-row-requires : tie.Need-float32-row-requires
 float32-row-requires c κs = search needs
 
--- src/rows.rt:124:9
 returns-4 : tie.Need-returns-4
 returns-4 c = c .float32-row .ensures ∙ row-float32 _ _ _ _ (c .before .if4 .taken)
 
--- src/rows.rt:127:9
 float64-row-requires : tie.Need-float64-row-requires
 float64-row-requires c κs = search needs
 
--- src/rows.rt:127:9
 returns-5 : tie.Need-returns-5
 returns-5 c = c .float64-row .ensures ∙ row-float64 _ _ _ _ (c .before .if5 .taken)
 
--- src/rows.rt:130:9
 plain-requires-4 : tie.Need-plain-requires-4
 plain-requires-4 c κs = search needs
 
--- src/rows.rt:130:9
 returns-6 : tie.Need-returns-6
 returns-6 c = c .plain4 .ensures ∙ row-bytes _ _ _ _ (c .before .if6 .taken)
 
--- src/rows.rt:136:9
 plain-requires-5 : tie.Need-plain-requires-5
 plain-requires-5 c κs = search needs
 
--- src/rows.rt:136:9
 returns-7 : tie.Need-returns-7
 returns-7 c = c .plain5 .ensures ∙ row-members _ _ _ _ (c .before .if7 .taken)
 
--- src/rows.rt:138:5
 float32-row-requires-2 : tie.Need-float32-row-requires-2
 float32-row-requires-2 c κs = search needs
 
--- src/rows.rt:111:1
 returns-8 : tie.Need-returns-8
 returns-8 c = c .float32-row2 .ensures ∙ row-odd _ _ _ _ (c .before .before .before .before .before .before .before .if1 .left) (c .before .before .before .before .before .before .if2 .left) (c .before .before .before .before .before .if3 .left) (c .before .before .before .before .if4 .left) (c .before .before .before .if5 .left) (c .before .before .if6 .left) (c .before .if7 .left)
 

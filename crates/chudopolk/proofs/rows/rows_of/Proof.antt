@@ -1,3 +1,5 @@
+-- `chudopolk::rows::rows_of` meets its contract. The loop's invariant: the first i rows are those of the numbers, and there are numbers for n.
+-- Assumes nothing.
 use mathlib.Core.Path.{_≡_, ap, _∙_}
 use Prim.Native.Nat.{ℕ, _≤_, _-_, _*_}
 use lib.ListN.{length}
@@ -8,11 +10,6 @@ use Rattle.chudopolk.specs.Rows.{rowsUpTo}
 use Rattle.chudopolk.proofs.ValueLaws.{rowsUpTo-none, rowsUpTo-more, lent-within, rowsOf-is}
 use Rattle.chudopolk.proofs.rows.rows_of.Statement.{statement}
 use Rattle.chudopolk.proofs.rows.rows_of.Tie as tie
-use Rattle.chudopolk.proofs.rows.rows_of.Reads as reads
-use Rattle.chudopolk.proofs.rows.rows_of.Lts as lts
-use Rattle.chudopolk.proofs.rows.lent.Reads as lent-reads
-use Rattle.chudopolk.proofs.rows.plain.Reads as plain-reads
-use Rattle.chudopolk.proofs.rows.row_at.Reads as row-at-reads
 
 abbrev Inv-loop : tie.InvT-loop
 Inv-loop values n rows₀ i₀ rows i = (i ≤ n) × (n ≤ 64) × (4 * n ≤ length values) × (rows ≡ rowsUpTo i values)
@@ -20,45 +17,35 @@ Inv-loop values n rows₀ i₀ rows i = (i ≤ n) × (n ≤ 64) × (4 * n ≤ le
 abbrev μ-loop : tie.MeasureT-loop
 μ-loop values n rows₀ i₀ rows i = n - i
 
--- src/rows.rt:165:9
 lent-requires : tie.Need-lent-requires Inv-loop μ-loop
 lent-requires c κs = search needs
 
--- src/rows.rt:166:21
 plain-requires : tie.Need-plain-requires Inv-loop μ-loop
 plain-requires c κs = search needs
 
--- src/rows.rt:168:5
 loop-holds : tie.Need-loop-holds Inv-loop μ-loop
 loop-holds c =
     let within = lent-within _ _ (c .before .lent .ensures) in
     (omega arith, within .0, within .1, rowsUpTo-none _ _ (c .plain .ensures))
 
--- src/rows.rt:169:13
 row-at-requires : tie.Need-row-at-requires Inv-loop μ-loop
 row-at-requires c κs = search needs
 
--- src/rows.rt:170:9
 mul-rows : tie.Need-mul-rows Inv-loop μ-loop
 mul-rows c = search needs
 
--- src/rows.rt:170:9
 array-set-from-rows : tie.Need-array-set-from-rows Inv-loop μ-loop
 array-set-from-rows c = search needs
 
--- src/rows.rt:171:9
 add-i : tie.Need-add-i Inv-loop μ-loop
 add-i c = search needs
 
--- src/rows.rt:168:5
 loop-less : tie.Need-loop-less Inv-loop μ-loop
 loop-less c = search needs
 
--- src/rows.rt:168:5
 loop-again : tie.Need-loop-again Inv-loop μ-loop
 loop-again c = (omega arith, omega arith, omega arith, rowsUpTo-more _ _ _ _ (c .before .before .loop .inv .3) (c .row-at .ensures))
 
--- src/rows.rt:162:1
 returns : tie.Need-returns Inv-loop μ-loop
 returns c =
     let done : c .before .loop .i ≡ c .before .before .before .lent .result = omega arith in

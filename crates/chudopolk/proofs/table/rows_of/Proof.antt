@@ -1,3 +1,5 @@
+-- `chudopolk::table::rows_of` meets its contract. The loop's invariant: the first i rows are those of the numbers.
+-- Assumes nothing.
 use mathlib.Core.Path.{_≡_, ap}
 use denote.Ref.{now}
 use Prim.Native.Nat.{ℕ, _≤_, _-_}
@@ -7,10 +9,6 @@ use Rattle.chudopolk.specs.Table.{typeRowsOf}
 use Rattle.chudopolk.proofs.TableLaws.{typeRowsOf-none, typeRowsOf-more}
 use Rattle.chudopolk.proofs.table.rows_of.Statement.{statement}
 use Rattle.chudopolk.proofs.table.rows_of.Tie as tie
-use Rattle.chudopolk.proofs.table.rows_of.Reads as reads
-use Rattle.chudopolk.proofs.table.rows_of.Lts as lts
-use Rattle.chudopolk.proofs.table.no_row.Reads as no-row-reads
-use Rattle.chudopolk.proofs.table.type_row_at.Reads as type-row-at-reads
 
 abbrev Inv-loop : tie.InvT-loop
 Inv-loop numbers n rows₀ i₀ rows i = (i ≤ n) × (rows ≡ typeRowsOf i numbers)
@@ -18,39 +16,30 @@ Inv-loop numbers n rows₀ i₀ rows i = (i ≤ n) × (rows ≡ typeRowsOf i num
 abbrev μ-loop : tie.MeasureT-loop
 μ-loop numbers n rows₀ i₀ rows i = n - i
 
--- src/table.rt:84:21
 no-row-requires : tie.Need-no-row-requires Inv-loop μ-loop
 no-row-requires c κs = search needs
 
--- src/table.rt:86:5
 loop-holds : tie.Need-loop-holds Inv-loop μ-loop
 loop-holds c = (omega arith, typeRowsOf-none _ _ (c .no-row .ensures))
 
--- src/table.rt:87:13
 type-row-at-requires : tie.Need-type-row-at-requires Inv-loop μ-loop
 type-row-at-requires c κs = search needs
 
--- src/table.rt:88:9
 mul-rows : tie.Need-mul-rows Inv-loop μ-loop
 mul-rows c = search needs
 
--- src/table.rt:88:9
 array-set-from-rows : tie.Need-array-set-from-rows Inv-loop μ-loop
 array-set-from-rows c = search needs
 
--- src/table.rt:89:9
 add-i : tie.Need-add-i Inv-loop μ-loop
 add-i c = search needs
 
--- src/table.rt:86:5
 loop-less : tie.Need-loop-less Inv-loop μ-loop
 loop-less c = search needs
 
--- src/table.rt:86:5
 loop-again : tie.Need-loop-again Inv-loop μ-loop
 loop-again c = (omega arith, typeRowsOf-more _ _ _ _ (c .before .before .loop .inv .1) (c .type-row-at .ensures))
 
--- src/table.rt:80:1
 returns : tie.Need-returns Inv-loop μ-loop
 returns c = rw (c .before .loop .inv .1) (ap (λ (m : ℕ). typeRowsOf m (now (c .before .before .before .before .args .numbers))) (omega arith))
 
