@@ -24,6 +24,7 @@ use Rattle.chudopolk.specs.declared.head.Sent.{Sent}
 use Rattle.chudopolk.specs.Table.{tableOf}
 use Rattle.chudopolk.specs.Rows.{rowsOf}
 use Rattle.chudopolk.specs.Head.{expectedOf, roomOf, headerOf, sentIs, sentOf}
+use Rattle.chudopolk.specs.Calls.{readOf, writeOf, outOf}
 use Rattle.chudopolk.specs.Promises.{ValuesKept, HandsValues, OneRead, OneWrite}
 use Rattle.chudopolk.proofs.RowLaws.{flat-none, after-long, after-row, after-rest}
 
@@ -35,10 +36,10 @@ rows-in d e t values m h =
     rw h (law .within-rows, law .all-rows, omega (arith, law .within-room))
 
 -- a reading under what numbers stand for
-pub read-as : (d types values : List ℕ) (x : Expectation) (form : Form) (e : Expected) (t : Table) (m : MessageReading) → e ≡ expectedOf x → t ≡ tableOf form types
-    → m ≡ messageOf d e t (roomOf values) → m ≡ messageOf d (expectedOf x) (tableOf form types) (roomOf values)
-read-as d types values x form e t m he ht h =
-    h ∙ ap (λ (u : Expected). messageOf d u t (roomOf values)) he ∙ ap (λ (u : Table). messageOf d (expectedOf x) u (roomOf values)) ht
+module _ (d types values : List ℕ) (x : Expectation) (form : Form) where
+  pub read-as : (e : Expected) (t : Table) (m : MessageReading) → e ≡ expectedOf x → t ≡ tableOf form types → m ≡ messageOf d e t (roomOf values)
+      → m ≡ readOf d x form types values
+  read-as e t m he ht h = h ∙ rw (he, ht)
 
 -- a writing of what numbers stand for
 module _ (types values buf old : List ℕ) (f : Fields) (form : Form) where
@@ -46,21 +47,15 @@ module _ (types values buf old : List ℕ) (f : Fields) (form : Form) where
       → t ≡ tableOf form types
       → (w ≡ messageWriting h rows (roomOf values) t buf (length old)) × (after ≡ messageOutput h rows (roomOf values) t buf old)
       → s ≡ sentIs (w .verdict) (w .len)
-      → (s ≡ sentOf (messageWriting (headerOf f) (rowsOf values) (roomOf values) (tableOf form types) buf (length old)))
-      × (after ≡ messageOutput (headerOf f) (rowsOf values) (roomOf values) (tableOf form types) buf old)
+      → (s ≡ sentOf (writeOf f form types values buf (length old))) × (after ≡ outOf f form types values buf old)
   write-as h rows t w after s hh hr ht both e =
-      (e ∙ ap sentOf (both .0 ∙ answer), both .1 ∙ output)
-    where
-      answer : messageWriting h rows (roomOf values) t buf (length old)
-          ≡ messageWriting (headerOf f) (rowsOf values) (roomOf values) (tableOf form types) buf (length old)
-      answer = rw (hh, hr, ht)
-
-      output : messageOutput h rows (roomOf values) t buf old ≡ messageOutput (headerOf f) (rowsOf values) (roomOf values) (tableOf form types) buf old
-      output = rw (hh, hr, ht)
+      let answer : w ≡ writeOf f form types values buf (length old) = both .0 ∙ rw (hh, hr, ht) in
+      (e ∙ ap sentOf answer, both .1 ∙ rw (hh, hr, ht))
 
 -- ---- what a reading leaves
 
-kept-by : (m : MessageReading) (old : List ℕ) → (m .reading .filled ≤ 64) × (length (m .reading .rows) ≡ 64) × (4 * m .reading .filled ≤ length old)
+kept-by : (m : MessageReading) (old : List ℕ)
+    → (m .reading .filled ≤ 64) × (length (m .reading .rows) ≡ 64) × (4 * m .reading .filled ≤ length old)
     → (changesNone (m .reading .verdict) ≡ true → m .reading .filled ≡ 0) → ValuesKept m old
 kept-by m old fits none =
     let few : m .reading .filled ≤ length (m .reading .rows) = omega (arith, fits .0, fits .1) in

@@ -3,7 +3,7 @@
 use mathlib.Core.Path.{_≡_, refl, ap, _∙_}
 use Prim.Native.Nat.{ℕ, zero, suc, _+_, _*_, _≤_, _<_}
 use native.Mathlib.Omega.{arith}
-use mathlib.Core.Bool.{Bool, true, false, false≢true}
+use mathlib.Core.Bool.{Bool, true, false}
 use mathlib.Core.List.{List}
 use lib.ListN.{length, getD, set}
 use lib.Seq.{getD-set-same, getD-set-other, getD-take}
@@ -16,15 +16,7 @@ use Rattle.payload.proofs.Promises.{table-decided}
 use Rattle.chudopolk.specs.declared.table.Form.{Form}
 use Rattle.chudopolk.specs.Table.{rowHolds, typeRowOf, typeRowAt, typeRowsOf, takenOf, tableOf}
 use Rattle.chudopolk.specs.Promises.{RowKept, TablesKept}
-use Rattle.chudopolk.proofs.TableLaws.{length-typeRowsOf, taken-within}
-
-pub and-right : (a b : Bool) → and a b ≡ true → b ≡ true
-and-right true b h = h
-and-right false b h = absurd (false≢true h)
-
-pub and-left : (a b : Bool) → and a b ≡ true → a ≡ true
-and-left true b h = refl
-and-left false b h = absurd (false≢true h)
+use Rattle.chudopolk.proofs.TableLaws.{and-right, holds-bounds, length-typeRowsOf, taken-within}
 
 -- ---- a row
 
@@ -42,14 +34,6 @@ module _ (l x k e q : ℕ) where
   unfolding typeRowOf
   row-is h = rw h
 
-  row-mark : rowHolds l x k e q ≡ true → q ≤ 1
-  row-mark h =
-      leb-true q 1
-      (and-right (leb e 255) (leb q 1)
-      (and-right (leb k 255) (and (leb e 255) (leb q 1))
-      (and-right (leb x 65535) (and (leb k 255) (and (leb e 255) (leb q 1)))
-      (and-right (leb l 255) (and (leb x 65535) (and (leb k 255) (and (leb e 255) (leb q 1)))) h))))
-
 row-kept : (numbers : List ℕ) (i : ℕ) (r : TypeRow) → r ≡ typeRowAt numbers i → 1 ≤ r .level → RowKept numbers i r
 row-kept numbers i r h some =
     let n : ℕ → ℕ = λ k. getD numbers (5 * i + k) 0 in
@@ -61,12 +45,13 @@ row-kept numbers i r h some =
       kind-is = ap (λ (t : TypeRow). t .kind) is;
       elem-is = ap (λ (t : TypeRow). t .elem) is;
       required-is = ap (λ (t : TypeRow). t .required) is;
-      mark-in = row-mark (getD numbers (5 * i) 0) (n 1) (n 2) (n 3) (n 4) holds;
+      mark-in = holds-bounds (getD numbers (5 * i) 0) (n 1) (n 2) (n 3) (n 4) holds .mark-in;
     }
 
 -- ---- the rows
 
-one-more : (n i : ℕ) (numbers : List ℕ) (b : Bool) → eqb i n ≡ b → n < 64 → i < suc n → (i < n → getD (typeRowsOf n numbers) i noRow ≡ typeRowAt numbers i)
+one-more : (n i : ℕ) (numbers : List ℕ) (b : Bool) → eqb i n ≡ b → n < 64 → i < suc n
+    → (i < n → getD (typeRowsOf n numbers) i noRow ≡ typeRowAt numbers i)
     → getD (set (typeRowsOf n numbers) n (typeRowAt numbers n)) i noRow ≡ typeRowAt numbers i
 one-more n i numbers true e few h before =
     let same : i ≡ n = eqb-true _ _ e in
@@ -106,5 +91,6 @@ tables-kept form numbers fits =
       count-is = some .0;
       each-row = λ i h.
           let below : i < n = omega (arith, some .0) in
-          row-kept numbers i _ (getD-take n (typeRowsOf n numbers) i noRow below ∙ at n i numbers (within .0) below) (rules .each-row i below .level-least);
+          let same = getD-take n (typeRowsOf n numbers) i noRow below ∙ at n i numbers (within .0) below in
+          row-kept numbers i _ same (rules .each-row i below .level-least);
     }

@@ -11,7 +11,7 @@ use Rattle.payload.specs.declared.row.Row.{Row}
 use Rattle.payload.specs.declared.row.Value.{Value}
 use Rattle.payload.specs.Row.{absentRow}
 use Rattle.chudopolk.specs.declared.rows.Numbers.{Numbers}
-use Rattle.chudopolk.specs.Rows.{numbersOf, listed, flat}
+use Rattle.chudopolk.specs.Rows.{numbersOf, listed, fourOf, flat}
 
 -- ---- a row
 
@@ -28,24 +28,21 @@ stored-four l i a b c d =
 
 -- ---- the numbers of rows
 
-abbrev four : Row → List ℕ
-four r = listed (numbersOf (r .value) (r .bits))
-
 pub length-flat : (rows : List Row) → length (flat rows) ≡ 4 * length rows
 unfolding flat
 length-flat [] = refl
-length-flat (r ∷ rows) = omega (arith, length-append (four r) (flat rows), length-flat rows)
+length-flat (r ∷ rows) = omega (arith, length-append (fourOf r) (flat rows), length-flat rows)
 
 flat-append : (a b : List Row) → flat (a ++ b) ≡ flat a ++ flat b
 unfolding flat
 flat-append [] b = refl
-flat-append (r ∷ a) b = ap (λ (l : List ℕ). four r ++ l) (flat-append a b)
+flat-append (r ∷ a) b = ap (λ (l : List ℕ). fourOf r ++ l) (flat-append a b)
 
-flat-one : (r : Row) → flat (r ∷ []) ≡ four r
+flat-one : (r : Row) → flat (r ∷ []) ≡ fourOf r
 unfolding flat
 flat-one r = refl
 
-flat-suc : (rows : List Row) (i : ℕ) → i < length rows → flat (take (suc i) rows) ≡ flat (take i rows) ++ four (getD rows i absentRow)
+flat-suc : (rows : List Row) (i : ℕ) → i < length rows → flat (take (suc i) rows) ≡ flat (take i rows) ++ fourOf (getD rows i absentRow)
 flat-suc rows i h =
     ap flat (take-suc rows i absentRow h) ∙ flat-append (take i rows) (getD rows i absentRow ∷ [])
     ∙ ap (λ (l : List ℕ). flat (take i rows) ++ l) (flat-one (getD rows i absentRow))
@@ -67,7 +64,7 @@ pub flat-more : (rows : List Row) (old out : List ℕ) (i : ℕ) (n : Numbers) �
 flat-more rows old out i n h room e m =
     let size : length (flat (take i rows)) ≡ 4 * i = length-flat (take i rows) ∙ ap (λ (k : ℕ). 4 * k) (length-take-le i rows (omega arith)) in
     let next : 4 * i + 4 ≡ 4 * (i + 1) = omega arith in
-    rw (e, m) (over (flat (take i rows)) (four (getD rows i absentRow)) old (4 * i) size refl room
+    rw (e, m) (over (flat (take i rows)) (fourOf (getD rows i absentRow)) old (4 * i) size refl room
     ∙ ap (λ (l : List ℕ). l ++ drop (4 * i + 4) old) (sym (flat-suc rows i h))
     ∙ ap (λ (k : ℕ). flat (take k rows) ++ drop (4 * i + 4) old) (sym (add-one i))
     ∙ ap (λ (k : ℕ). flat (take (i + 1) rows) ++ drop k old) next)
@@ -84,7 +81,7 @@ flat-long rows old out i h room e =
 
 -- ---- by row
 
-flat-at : (rows : List Row) (i : ℕ) (rest : List ℕ) → i < length rows → take 4 (drop (4 * i) (flat rows ++ rest)) ≡ four (getD rows i absentRow)
+flat-at : (rows : List Row) (i : ℕ) (rest : List ℕ) → i < length rows → take 4 (drop (4 * i) (flat rows ++ rest)) ≡ fourOf (getD rows i absentRow)
 unfolding flat
 flat-at [] i rest h = absurd (omega arith)
 flat-at (r ∷ rows) zero rest h = refl
@@ -97,9 +94,9 @@ module _ (rows : List Row) (old : List ℕ) (n : ℕ) (few : n ≤ length rows) 
   pub after-long : length (flat (take n rows) ++ drop (4 * n) old) ≡ length old
   after-long = flat-long rows old (flat (take n rows) ++ drop (4 * n) old) n few room refl
 
-  pub after-row : (i : ℕ) → i < n → take 4 (drop (4 * i) (flat (take n rows) ++ drop (4 * n) old)) ≡ four (getD rows i absentRow)
+  pub after-row : (i : ℕ) → i < n → take 4 (drop (4 * i) (flat (take n rows) ++ drop (4 * n) old)) ≡ fourOf (getD rows i absentRow)
   after-row i h =
-      flat-at (take n rows) i (drop (4 * n) old) (omega (arith, length-take-le n rows few)) ∙ ap four (getD-take n rows i absentRow h)
+      flat-at (take n rows) i (drop (4 * n) old) (omega (arith, length-take-le n rows few)) ∙ ap fourOf (getD-take n rows i absentRow h)
 
   pub after-rest : drop (4 * n) (flat (take n rows) ++ drop (4 * n) old) ≡ drop (4 * n) old
   after-rest =

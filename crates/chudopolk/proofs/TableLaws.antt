@@ -4,7 +4,7 @@ use mathlib.Core.Path.{_≡_, refl, sym, ap, _∙_}
 use Prim.Native.Nat.{ℕ, zero, suc, _+_, _*_, _≤_, _<_}
 use native.Mathlib.Omega.{arith}
 use native.Mathlib.Numerals.{add-one}
-use mathlib.Core.Bool.{Bool, true, false}
+use mathlib.Core.Bool.{Bool, true, false, false≢true}
 use mathlib.Core.List.{List}
 use lib.ListN.{length, set, length-set, replicate}
 use lib.Dec.{leb, eqb}
@@ -16,12 +16,46 @@ use Rattle.payload.specs.Table.{noRow, tableFits}
 use Rattle.chudopolk.specs.declared.table.Form.{Form}
 use Rattle.chudopolk.specs.Table.{rowHolds, typeRowOf, typeRowAt, typeRowsOf, takenOf, tableOf, tableVerdict}
 
+pub and-right : (a b : Bool) → and a b ≡ true → b ≡ true
+and-right true b h = h
+and-right false b h = absurd (false≢true h)
+
+pub and-left : (a b : Bool) → and a b ≡ true → a ≡ true
+and-left true b h = refl
+and-left false b h = absurd (false≢true h)
+
 -- ---- a row
 
+-- the bounds of a row's five numbers
+pub record Held (l x k e q : ℕ) : Type 0 where
+  pub level-in : l ≤ 255
+  pub ident-in : x ≤ 65535
+  pub kind-in : k ≤ 255
+  pub elem-in : e ≤ 255
+  pub mark-in : q ≤ 1
+
 module _ (l x k e q : ℕ) where
-  pub row-wild : rowHolds l x k e q ≡ false → noRow ≡ typeRowOf l x k e q
+  pub holds-bounds : rowHolds l x k e q ≡ true → Held l x k e q
+  holds-bounds h =
+      let h2 = and-right (leb l 255) (and (leb x 65535) (and (leb k 255) (and (leb e 255) (leb q 1)))) h in
+      let h3 = and-right (leb x 65535) (and (leb k 255) (and (leb e 255) (leb q 1))) h2 in
+      let h4 = and-right (leb k 255) (and (leb e 255) (leb q 1)) h3 in
+      record {
+        level-in = leb-true l 255 (and-left (leb l 255) _ h);
+        ident-in = leb-true x 65535 (and-left (leb x 65535) _ h2);
+        kind-in = leb-true k 255 (and-left (leb k 255) _ h3);
+        elem-in = leb-true e 255 (and-left (leb e 255) _ h4);
+        mark-in = leb-true q 1 (and-right (leb e 255) (leb q 1) h4);
+      }
+
+  pub row-wild : (Held l x k e q → ⊥) → noRow ≡ typeRowOf l x k e q
   unfolding typeRowOf
-  row-wild h = rw h
+  row-wild wild = go (rowHolds l x k e q) refl
+    where
+      go : (b : Bool) → rowHolds l x k e q ≡ b
+          → noRow ≡ pick (rowHolds l x k e q) (record { level = l; ident = x; kind = k; elem = e; required = eqb q 1 }) noRow
+      go true h = absurd (wild (holds-bounds h))
+      go false h = rw h
 
   pub row-held : l ≤ 255 → x ≤ 65535 → k ≤ 255 → e ≤ 255 → q ≤ 1
       → record { level = l; ident = x; kind = k; elem = e; required = eqb q 1 } ≡ typeRowOf l x k e q

@@ -82,7 +82,8 @@ unfolding rowsUpTo
 length-rowsUpTo zero values = refl
 length-rowsUpTo (suc n) values = length-set (rowsUpTo n values) n (rowAt values n) ∙ length-rowsUpTo n values
 
-one-more : (n i : ℕ) (values : List ℕ) (b : Bool) → eqb i n ≡ b → n < 64 → i < suc n → (i < n → getD (rowsUpTo n values) i absentRow ≡ rowAt values i)
+one-more : (n i : ℕ) (values : List ℕ) (b : Bool) → eqb i n ≡ b → n < 64 → i < suc n
+    → (i < n → getD (rowsUpTo n values) i absentRow ≡ rowAt values i)
     → getD (set (rowsUpTo n values) n (rowAt values n)) i absentRow ≡ rowAt values i
 one-more n i values true e few h before =
     let same : i ≡ n = eqb-true _ _ e in
@@ -99,7 +100,8 @@ rows-at (suc n) i values few h = one-more n i values (eqb i n) refl (omega arith
 rows-beyond : (n i : ℕ) (values : List ℕ) → n ≤ i → getD (rowsUpTo n values) i absentRow ≡ absentRow
 unfolding rowsUpTo
 rows-beyond zero i values h = getD-same 64 i absentRow
-rows-beyond (suc n) i values h = getD-set-other (rowsUpTo n values) n i (rowAt values n) absentRow (λ e. omega arith) ∙ rows-beyond n i values (omega arith)
+rows-beyond (suc n) i values h =
+    getD-set-other (rowsUpTo n values) n i (rowAt values n) absentRow (λ e. omega arith) ∙ rows-beyond n i values (omega arith)
 
 -- ---- how many
 
@@ -171,6 +173,10 @@ odd-unfit buf upto r types rows = rw (odd-fine buf upto r)
 pub wild-unfit : WildUnfit
 wild-unfit w n p l over buf upto r types rows =
     let no : (k : ℕ) → k ≤ 6 → w ≡ k → ⊥ = λ k m e. omega arith in
-    let odd : oddRow ≡ rowOf w n p l =
-    row-odd w n p l (no 0 (omega arith)) (no 1 (omega arith)) (no 2 (omega arith)) (no 3 (omega arith)) (no 4 (omega arith)) (no 5 (omega arith)) (no 6 (omega arith)) in
+    let one = no 1 (omega arith) in
+    let two = no 2 (omega arith) in
+    let three = no 3 (omega arith) in
+    let four = no 4 (omega arith) in
+    let five = no 5 (omega arith) in
+    let odd : oddRow ≡ rowOf w n p l = row-odd w n p l (no 0 (omega arith)) one two three four five (no 6 (omega arith)) in
     rw (← odd) (odd-unfit buf upto r types rows)

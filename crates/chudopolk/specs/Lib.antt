@@ -1,4 +1,5 @@
 pub mod Table
 pub mod Rows
 pub mod Head
+pub mod Calls
 pub mod Promises

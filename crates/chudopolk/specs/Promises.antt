@@ -16,7 +16,6 @@ use Rattle.payload.specs.Outcome.{changesNone}
 use Rattle.message.specs.declared.read.Expected.{Expected}
 use Rattle.message.specs.declared.read.MessageReading.{MessageReading}
 use Rattle.message.specs.Reading.{messageOf}
-use Rattle.message.specs.Writing.{messageWriting, messageOutput}
 use Rattle.payload.specs.declared.table.Table.{Table}
 use Rattle.chudopolk.specs.declared.table.Form.{Form}
 use Rattle.chudopolk.specs.declared.head.Expectation.{Expectation}
@@ -24,8 +23,9 @@ use Rattle.chudopolk.specs.declared.head.Answer.{Answer}
 use Rattle.chudopolk.specs.declared.head.Fields.{Fields}
 use Rattle.chudopolk.specs.declared.head.Sent.{Sent}
 use Rattle.chudopolk.specs.Table.{tableOf}
-use Rattle.chudopolk.specs.Rows.{numbersOf, listed, rowOf, rowAt, rowsOf}
-use Rattle.chudopolk.specs.Head.{expectedOf, answerOf, roomOf, valuesAfter, headerOf, sentOf}
+use Rattle.chudopolk.specs.Rows.{fourOf, rowOf, rowAt, rowsOf}
+use Rattle.chudopolk.specs.Head.{answerOf, roomOf, valuesAfter, sentOf}
+use Rattle.chudopolk.specs.Calls.{readOf, writeOf, outOf}
 
 -- ---- a table
 
@@ -72,7 +72,7 @@ pub record ValuesKept (m : MessageReading) (old : List ℕ) : Type 0 where
   pub as-many : length (valuesAfter m old) ≡ length old
   pub none-changed : changesNone (m .reading .verdict) ≡ true → valuesAfter m old ≡ old
   pub each-row : (i : ℕ) → i < m .reading .filled
-      → take 4 (drop (4 * i) (valuesAfter m old)) ≡ listed (numbersOf (getD (m .reading .rows) i absentRow .value) (getD (m .reading .rows) i absentRow .bits))
+      → take 4 (drop (4 * i) (valuesAfter m old)) ≡ fourOf (getD (m .reading .rows) i absentRow)
   pub beyond-stay : drop (4 * m .reading .filled) (valuesAfter m old) ≡ drop (4 * m .reading .filled) old
 
 -- C4. After a reading each row that it sets has its four numbers, and all others are as they were; 1 and 2 change none.
@@ -85,15 +85,13 @@ HandsValues = (d : List ℕ) (e : Expected) (t : Table) (old : List ℕ) → Val
 abbrev pub OneRead : Type 0
 OneRead =
     (d types old : List ℕ) (x : Expectation) (form : Form) (r s : Answer) (after other : List ℕ)
-    → (let m = messageOf d (expectedOf x) (tableOf form types) (roomOf old) in (r ≡ answerOf m) × (after ≡ valuesAfter m old))
-    → (let m = messageOf d (expectedOf x) (tableOf form types) (roomOf old) in (s ≡ answerOf m) × (other ≡ valuesAfter m old))
+    → (r ≡ answerOf (readOf d x form types old)) × (after ≡ valuesAfter (readOf d x form types old) old)
+    → (s ≡ answerOf (readOf d x form types old)) × (other ≡ valuesAfter (readOf d x form types old) old)
     → (r ≡ s) × (after ≡ other)
 
 abbrev pub OneWrite : Type 0
 OneWrite =
     (types values buf old : List ℕ) (f : Fields) (form : Form) (r s : Sent) (after other : List ℕ)
-    → (let t = tableOf form types in let rows = rowsOf values in let room = roomOf values in
-    (r ≡ sentOf (messageWriting (headerOf f) rows room t buf (length old))) × (after ≡ messageOutput (headerOf f) rows room t buf old))
-    → (let t = tableOf form types in let rows = rowsOf values in let room = roomOf values in
-    (s ≡ sentOf (messageWriting (headerOf f) rows room t buf (length old))) × (other ≡ messageOutput (headerOf f) rows room t buf old))
+    → (r ≡ sentOf (writeOf f form types values buf (length old))) × (after ≡ outOf f form types values buf old)
+    → (s ≡ sentOf (writeOf f form types values buf (length old))) × (other ≡ outOf f form types values buf old)
     → (r ≡ s) × (after ≡ other)

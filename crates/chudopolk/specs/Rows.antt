@@ -31,10 +31,14 @@ numbersOf Members bits = numbered 6 0
 abbrev pub listed : Numbers → List ℕ
 listed n = n .what ∷ n .number ∷ n .place ∷ n .len ∷ []
 
+-- the four numbers of a row
+abbrev pub fourOf : Row → List ℕ
+fourOf r = listed (numbersOf (r .value) (r .bits))
+
 -- the numbers of rows, one row behind the other
 unfoldable pub flat : List Row → List ℕ
 flat [] = []
-flat (r ∷ rows) = listed (numbersOf (r .value) (r .bits)) ++ flat rows
+flat (r ∷ rows) = fourOf r ++ flat rows
 
 -- ---- for a writing
 

@@ -9,12 +9,8 @@ mod table;
 
 ghost use mathlib.Core.Path.{_≡_};
 ghost use lib.ListN.{length};
-ghost use Rattle.payload.specs.Table.{tableFits};
-ghost use Rattle.message.specs.Reading.{messageOf};
-ghost use Rattle.chudopolk.specs.Table.{tableOf, tableVerdict};
-ghost use Rattle.message.specs.Writing.{messageWriting, messageOutput};
-ghost use Rattle.chudopolk.specs.Rows.{rowsOf};
-ghost use Rattle.chudopolk.specs.Head.{expectedOf, answerOf, roomOf, valuesAfter, headerOf, sentOf};
+ghost use Rattle.chudopolk.specs.Head.{answerOf, valuesAfter, sentOf};
+ghost use Rattle.chudopolk.specs.Calls.{checkOf, readOf, writeOf, outOf};
 use head::Answer;
 use head::Expectation;
 use head::Fields;
@@ -27,7 +23,7 @@ use table::Form;
 // Whether a type table keeps its rules: 0, or verdict 1.
 #[no_mangle]
 pub extern "C" fn chudopolk_check_table(form: Form, types: &[u64]) -> u32
-    ensures { λ r. ⌜ r ≡ tableVerdict (tableFits (tableOf form (now (types .entry)))) ⌝ }
+    ensures { λ r. ⌜ r ≡ checkOf form (now (types .entry)) ⌝ }
 {
     if payload_table::table_fits(table::table_of(form, types)) {
         return 0;
@@ -44,8 +40,9 @@ pub extern "C" fn chudopolk_read_message(
     types: &[u64],
     values: &mut [u64],
 ) -> Answer
-    ensures { λ r. ⌜ (r ≡ answerOf (messageOf (now (datagram .entry)) (expectedOf expected) (tableOf form (now (types .entry))) (roomOf (now (values .entry)))))
-        × (now (values .exit) ≡ valuesAfter (messageOf (now (datagram .entry)) (expectedOf expected) (tableOf form (now (types .entry))) (roomOf (now (values .entry)))) (now (values .entry))) ⌝ }
+    ensures answer { λ r. ⌜ r ≡ answerOf (readOf (now (datagram .entry)) expected form (now (types .entry)) (now (values .entry))) ⌝ }
+    ensures rows { λ _. ⌜ now (values .exit)
+        ≡ valuesAfter (readOf (now (datagram .entry)) expected form (now (types .entry)) (now (values .entry))) (now (values .entry)) ⌝ }
 {
     let t = table::table_of(form, types);
     let e = head::expected_of(expected);
@@ -67,8 +64,10 @@ pub extern "C" fn chudopolk_write_message(
     content: &[u8],
     out: &mut [u8],
 ) -> Sent
-    ensures { λ r. ⌜ (r ≡ sentOf (messageWriting (headerOf header) (rowsOf (now (values .entry))) (roomOf (now (values .entry))) (tableOf form (now (types .entry))) (now (content .entry)) (length (now (out .entry)))))
-        × (now (out .exit) ≡ messageOutput (headerOf header) (rowsOf (now (values .entry))) (roomOf (now (values .entry))) (tableOf form (now (types .entry))) (now (content .entry)) (now (out .entry))) ⌝ }
+    ensures answer { λ r. ⌜ r
+        ≡ sentOf (writeOf header form (now (types .entry)) (now (values .entry)) (now (content .entry)) (length (now (out .entry)))) ⌝ }
+    ensures output { λ _. ⌜ now (out .exit)
+        ≡ outOf header form (now (types .entry)) (now (values .entry)) (now (content .entry)) (now (out .entry)) ⌝ }
 {
     let h = head::header_of(header);
     let all = rows::rows_of(values);

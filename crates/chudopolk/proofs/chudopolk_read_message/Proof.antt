@@ -1,4 +1,5 @@
--- `chudopolk::chudopolk_read_message` meets its contract: the library's own reading, under what the numbers stand for. Its rows fit by what `message` promises.
+-- `chudopolk::chudopolk_read_message` meets its contract: the library's own reading, under what the numbers stand for. By what `message`
+-- promises there is room for its rows.
 -- Assumes nothing.
 use mathlib.Core.Path.{ap, _∙_}
 use denote.Ref.{now}
@@ -33,8 +34,14 @@ returns : tie.Need-returns
 returns c =
     let c7 = c .before .before .before .before .before .before .before in
     let start = c7 .before .before .before .before .before .before in
-    let same = read-as (now (start .args .datagram)) (now (start .args .types)) (now (start .args .values)) (start .args .expected) (start .args .form) _ _ (c7 .read-by-value .result) (c7 .before .expected-of .ensures) (c7 .before .before .table-of .ensures) (c7 .read-by-value .ensures) in
-    (c .answer-of .ensures ∙ ap answerOf same, c .before .before .before .put-rows .ensures ∙ ap (λ (m : MessageReading). valuesAfter m (now (start .args .values))) same)
+    let a = start .args in
+    let old = now (a .values) in
+    let read = c7 .read-by-value in
+    let expected = c7 .before .expected-of .ensures in
+    let table = c7 .before .before .table-of .ensures in
+    let same = read-as (now (a .datagram)) (now (a .types)) old (a .expected) (a .form) _ _ (read .result) expected table (read .ensures) in
+    let put = c .before .before .before .put-rows .ensures in
+    (c .answer-of .ensures ∙ ap answerOf same, put ∙ ap (λ (m : MessageReading). valuesAfter m old) same)
 
 pub chudopolk-read-message-spec : {M : Type 1} → statement M
 chudopolk-read-message-spec =

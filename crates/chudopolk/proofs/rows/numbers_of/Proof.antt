@@ -60,10 +60,10 @@ returns-2 c = shown _ _ _ _ (c .before .before .v .given .1) (c .numbered2 .ensu
 
 returns-3 : tie.Need-returns-3
 returns-3 c =
+    let fits = c .before .before .known-told2 .given .0 .1 in
     let z = c .before .before .before .v2 .given .0 .0 in
-    shown _ _ _ _ (c .before .before .before .v2 .given .1)
-    (c .numbered3 .ensures
-    ∙ ap (numbered 2) (c .before .twos-of .ensures ∙ ap (twosOf 8) (toZ-ofZ {w = w64} {z = z} (record { sfits = c .before .before .known-told2 .given .0 .1 }))))
+    let twos = c .before .twos-of .ensures ∙ ap (twosOf 8) (toZ-ofZ {w = w64} {z = z} (record { sfits = fits })) in
+    shown _ _ _ _ (c .before .before .before .v2 .given .1) (c .numbered3 .ensures ∙ ap (numbered 2) twos)
 
 returns-4 : tie.Need-returns-4
 returns-4 c = shown _ _ _ _ (c .before .enum-told2 .given .1) (c .numbered4 .ensures)

@@ -1,7 +1,7 @@
--- `chudopolk::rows::put_rows` meets its contract. The loop's invariant: the numbers of the first i rows are stored, and the old ones stand behind them.
+-- `chudopolk::rows::put_rows` meets its contract. The loop's invariant: the numbers of the first i rows are stored, and old ones stand behind them.
 -- Assumes nothing.
 use mathlib.Core.Path.{_≡_, ap, _∙_}
-use Prim.Native.Nat.{ℕ, _≤_, _-_, _*_}
+use Prim.Native.Nat.{ℕ, _≤_, _<_, _-_, _*_}
 use mathlib.Core.List.{_++_}
 use lib.ListN.{length, take, drop}
 use native.Mathlib.Omega.{arith}
@@ -34,10 +34,10 @@ mul-put-row c = search needs
 
 put-row-requires : tie.Need-put-row-requires Inv-loop μ-loop
 put-row-requires c κs =
-    let c5 = c .before .before .before .before .before in
-    let c6 = c5 .before in
     let loop = c .before .before .before .before .loop in
-    let long : length (loop .out) ≡ length (c6 .args .out .now) = flat-long (c6 .args .t2) _ _ (loop .i) (omega (arith, c6 .pre .1)) (omega arith) (loop .inv .1) in
+    let start = c .before .before .before .before .before .before in
+    let few : loop .i ≤ length (start .args .t2) = omega (arith, start .pre .1) in
+    let long : length (loop .out) ≡ length (start .args .out .now) = flat-long (start .args .t2) _ _ (loop .i) few (omega arith) (loop .inv .1) in
     omega arith
 
 add-i : tie.Need-add-i Inv-loop μ-loop
@@ -49,12 +49,13 @@ loop-less c = search needs
 loop-again : tie.Need-loop-again Inv-loop μ-loop
 loop-again c =
     let c7 = c .before .before .before .before .before .before .before in
-    let c9 = c7 .before .before in
-    let numbers = c .before .before .before .before .numbers-of in (
-      omega arith,
-      c .before .before .put-row .ensures
-          ∙ flat-more (c9 .args .t2) (c9 .args .out .now) (c7 .loop .out) (c7 .loop .i) (numbers .result) (omega (arith, c9 .pre .1)) (omega arith) (c7 .loop .inv .1) (numbers .ensures),
-    )
+    let start = c7 .before .before in
+    let a = start .args in
+    let loop = c7 .loop in
+    let numbers = c .before .before .before .before .numbers-of in
+    let few : loop .i < length (a .t2) = omega (arith, start .pre .1) in
+    let more = flat-more (a .t2) (a .out .now) (loop .out) (loop .i) (numbers .result) few (omega arith) (loop .inv .1) (numbers .ensures) in
+    (omega arith, c .before .before .put-row .ensures ∙ more)
 
 same-length : tie.Need-same-length Inv-loop μ-loop
 same-length c =

@@ -27,7 +27,9 @@ plain-requires-3 : tie.Need-plain-requires-3
 plain-requires-3 c κs = search needs
 
 returns-3 : tie.Need-returns-3
-returns-3 c = c .plain3 .ensures ∙ rw (toZ-ofZ (sfits-of (c .before .signed-of .ok)), c .before .signed-of .ensures) (row-signed _ _ _ _ (c .before .before .if3 .taken))
+returns-3 c =
+    let signed = c .before .signed-of in
+    c .plain3 .ensures ∙ rw (toZ-ofZ (sfits-of (signed .ok)), signed .ensures) (row-signed _ _ _ _ (c .before .before .if3 .taken))
 
 float32-row-requires : tie.Need-float32-row-requires
 float32-row-requires c κs = search needs
@@ -57,7 +59,16 @@ float32-row-requires-2 : tie.Need-float32-row-requires-2
 float32-row-requires-2 c κs = search needs
 
 returns-8 : tie.Need-returns-8
-returns-8 c = c .float32-row2 .ensures ∙ row-odd _ _ _ _ (c .before .before .before .before .before .before .before .if1 .left) (c .before .before .before .before .before .before .if2 .left) (c .before .before .before .before .before .if3 .left) (c .before .before .before .before .if4 .left) (c .before .before .before .if5 .left) (c .before .before .if6 .left) (c .before .if7 .left)
+returns-8 c =
+    let c7 = c .before in
+    let c6 = c7 .before in
+    let c5 = c6 .before in
+    let c4 = c5 .before in
+    let c3 = c4 .before in
+    let c2 = c3 .before in
+    let c1 = c2 .before in
+    c .float32-row2 .ensures
+    ∙ row-odd _ _ _ _ (c1 .if1 .left) (c2 .if2 .left) (c3 .if3 .left) (c4 .if4 .left) (c5 .if5 .left) (c6 .if6 .left) (c7 .if7 .left)
 
 pub row-of-spec : {M : Type 1} → statement M
 row-of-spec =

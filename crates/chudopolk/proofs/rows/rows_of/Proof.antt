@@ -48,8 +48,10 @@ loop-again c = (omega arith, omega arith, omega arith, rowsUpTo-more _ _ _ _ (c 
 
 returns : tie.Need-returns Inv-loop μ-loop
 returns c =
-    let done : c .before .loop .i ≡ c .before .before .before .lent .result = omega arith in
-    rowsOf-is _ _ _ (c .before .before .before .lent .ensures) (c .before .loop .inv .3 ∙ ap (λ (m : ℕ). rowsUpTo m (now (c .before .before .before .before .before .args .values))) done)
+    let c3 = c .before .before .before in
+    let values = now (c3 .before .before .args .values) in
+    let done : c .before .loop .i ≡ c3 .lent .result = omega arith in
+    rowsOf-is _ _ _ (c3 .lent .ensures) (c .before .loop .inv .3 ∙ ap (λ (m : ℕ). rowsUpTo m values) done)
 
 pub rows-of-spec : {M : Type 1} → statement M
 rows-of-spec =

@@ -3,7 +3,6 @@
 use mathlib.Core.Path.{_∙_}
 use native.Mathlib.Omega.{arith}
 use borrow.Author.Needs.{needs}
-use borrow.Author.Tests.{le-leb, lt-leb}
 use Rattle.chudopolk.proofs.TableLaws.{row-wild, row-held}
 use Rattle.chudopolk.proofs.table.type_row.Statement.{statement}
 use Rattle.chudopolk.proofs.table.type_row.Tie as tie
@@ -12,31 +11,31 @@ no-row-requires : tie.Need-no-row-requires
 no-row-requires c κs = search needs
 
 returns : tie.Need-returns
-returns c = c .no-row .ensures ∙ row-wild _ _ _ _ _ (simp (lt-leb _ _ (c .before .if1 .taken)))
+returns c = c .no-row .ensures ∙ row-wild _ _ _ _ _ (λ h. omega (arith, c .before .if1 .taken))
 
 no-row-requires-2 : tie.Need-no-row-requires-2
 no-row-requires-2 c κs = search needs
 
 returns-2 : tie.Need-returns-2
-returns-2 c = c .no-row2 .ensures ∙ row-wild _ _ _ _ _ (simp (le-leb _ _ (c .before .before .if1 .left), lt-leb _ _ (c .before .if2 .taken)))
+returns-2 c = c .no-row2 .ensures ∙ row-wild _ _ _ _ _ (λ h. omega (arith, c .before .if2 .taken))
 
 no-row-requires-3 : tie.Need-no-row-requires-3
 no-row-requires-3 c κs = search needs
 
 returns-3 : tie.Need-returns-3
-returns-3 c = c .no-row3 .ensures ∙ row-wild _ _ _ _ _ (simp (le-leb _ _ (c .before .before .before .if1 .left), le-leb _ _ (c .before .before .if2 .left), lt-leb _ _ (c .before .if3 .taken)))
+returns-3 c = c .no-row3 .ensures ∙ row-wild _ _ _ _ _ (λ h. omega (arith, c .before .if3 .taken))
 
 no-row-requires-4 : tie.Need-no-row-requires-4
 no-row-requires-4 c κs = search needs
 
 returns-4 : tie.Need-returns-4
-returns-4 c = c .no-row4 .ensures ∙ row-wild _ _ _ _ _ (simp (le-leb _ _ (c .before .before .before .before .if1 .left), le-leb _ _ (c .before .before .before .if2 .left), le-leb _ _ (c .before .before .if3 .left), lt-leb _ _ (c .before .if4 .taken)))
+returns-4 c = c .no-row4 .ensures ∙ row-wild _ _ _ _ _ (λ h. omega (arith, c .before .if4 .taken))
 
 no-row-requires-5 : tie.Need-no-row-requires-5
 no-row-requires-5 c κs = search needs
 
 returns-5 : tie.Need-returns-5
-returns-5 c = c .no-row5 .ensures ∙ row-wild _ _ _ _ _ (simp (le-leb _ _ (c .before .before .before .before .before .if1 .left), le-leb _ _ (c .before .before .before .before .if2 .left), le-leb _ _ (c .before .before .before .if3 .left), le-leb _ _ (c .before .before .if4 .left), lt-leb _ _ (c .before .if5 .taken)))
+returns-5 c = c .no-row5 .ensures ∙ row-wild _ _ _ _ _ (λ h. omega (arith, c .before .if5 .taken))
 
 cast-t7 : tie.Need-cast-t7
 cast-t7 c = search needs
