@@ -79,7 +79,8 @@ if [ "$machine" = x86_64 ]; then
 fi
 
 CHUDOPOLK_LIB=${archive%/*} CARGO_TARGET_DIR=$room/cargo cargo build --quiet --release --offline --locked --target "$rust_target" \
-    --manifest-path "$root/examples/rust/Cargo.toml" || fail 1 "the Rust example could not be built (rustup target add $rust_target, if it is the target that lacks)"
+    --manifest-path "$root/examples/rust/Cargo.toml" ||
+    fail 1 "the Rust example could not be built (if the target is missing: rustup target add $rust_target)"
 prints 'the Rust example' "$room/cargo/$rust_target/release/lorry"
 
 compile tests/abi/wild.c "$room/wild"

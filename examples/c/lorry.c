@@ -9,8 +9,11 @@
 
 /* Time, temperature in tenths of a degree, and a spreader with its grams per square metre, behind which stands a remark. */
 static const chudopolk_type_row types[] = {
-    {1, 1, CHUDOPOLK_UINT32, 0, CHUDOPOLK_OPTIONAL}, {1, 2, CHUDOPOLK_SINT16, 0, CHUDOPOLK_REQUIRED}, {1, 5, CHUDOPOLK_STRUCT, 0, CHUDOPOLK_OPTIONAL},
-    {2, 1, CHUDOPOLK_UINT16, 0, CHUDOPOLK_REQUIRED}, {1, 7, CHUDOPOLK_STRING, 0, CHUDOPOLK_OPTIONAL},
+    {1, 1, CHUDOPOLK_UINT32, 0, CHUDOPOLK_OPTIONAL},
+    {1, 2, CHUDOPOLK_SINT16, 0, CHUDOPOLK_REQUIRED},
+    {1, 5, CHUDOPOLK_STRUCT, 0, CHUDOPOLK_OPTIONAL},
+    {2, 1, CHUDOPOLK_UINT16, 0, CHUDOPOLK_REQUIRED},
+    {1, 7, CHUDOPOLK_STRING, 0, CHUDOPOLK_OPTIONAL},
 };
 static const chudopolk_form form = {5, 1, CHUDOPOLK_TOLD};
 
@@ -41,10 +44,11 @@ int main(void) {
 
     chudopolk_value_row values[5] = {0};
     chudopolk_expectation expected = {0x4A01, 0x8001, 1, CHUDOPOLK_NOTIFICATION};
-    chudopolk_answer read = chudopolk_read_message(datagram, sizeof datagram, expected, form, &types[0].level, CHUDOPOLK_NUMBERS(types), &values[0].what,
-                                                   CHUDOPOLK_NUMBERS(values));
+    chudopolk_answer read = chudopolk_read_message(datagram, sizeof datagram, expected, form, &types[0].level, CHUDOPOLK_NUMBERS(types),
+                                                   &values[0].what, CHUDOPOLK_NUMBERS(values));
     printf("verdict %" PRIu32 " code %" PRIu32 " place %zu skipped %zu\n", read.verdict, read.code, read.place, read.skipped);
-    printf("client %u session %u payload %zu %zu rest %zu %zu\n", read.client, read.session, read.payload_at, read.payload_len, read.rest_at, read.rest_len);
+    printf("client %u session %u payload %zu %zu rest %zu %zu\n", read.client, read.session, read.payload_at, read.payload_len, read.rest_at,
+           read.rest_len);
     for (size_t i = 0; i < form.count; i++) print_row(i, &values[i]);
 
     /* The same values with a time and a remark, whose text stands in the content buffer. */
@@ -53,8 +57,8 @@ int main(void) {
     values[4] = (chudopolk_value_row){CHUDOPOLK_IS_BYTES, 0, 0, sizeof remark};
     chudopolk_fields header = {0x4A01, 0x8001, read.client, (uint16_t)(read.session + 1), 1, CHUDOPOLK_NOTIFICATION, 0};
     uint8_t out[CHUDOPOLK_MESSAGE_MOST] = {0};
-    chudopolk_sent sent = chudopolk_write_message(header, form, &types[0].level, CHUDOPOLK_NUMBERS(types), &values[0].what, CHUDOPOLK_NUMBERS(values), remark,
-                                                  sizeof remark, out, sizeof out);
+    chudopolk_sent sent = chudopolk_write_message(header, form, &types[0].level, CHUDOPOLK_NUMBERS(types), &values[0].what,
+                                                  CHUDOPOLK_NUMBERS(values), remark, sizeof remark, out, sizeof out);
     printf("verdict %" PRIu32 " length %zu\n", sent.verdict, sent.len);
     for (size_t i = 0; i < sent.len; i++) printf("%02X%s", out[i], i + 1 == sent.len ? "\n" : " ");
     return 0;

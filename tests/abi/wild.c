@@ -34,7 +34,8 @@ static void *lent(size_t bytes) {
 }
 
 static const chudopolk_type_row table_w[5] = {
-    {1, 1, CHUDOPOLK_UINT32, 0, 0}, {1, 2, CHUDOPOLK_SINT16, 0, 1}, {1, 5, CHUDOPOLK_STRUCT, 0, 0}, {2, 1, CHUDOPOLK_UINT16, 0, 1}, {1, 7, CHUDOPOLK_STRING, 0, 0},
+    {1, 1, CHUDOPOLK_UINT32, 0, 0}, {1, 2, CHUDOPOLK_SINT16, 0, 1}, {1, 5, CHUDOPOLK_STRUCT, 0, 0},
+    {2, 1, CHUDOPOLK_UINT16, 0, 1}, {1, 7, CHUDOPOLK_STRING, 0, 0},
 };
 static const chudopolk_form form_w = {5, 1, CHUDOPOLK_TOLD};
 static const chudopolk_expectation expected_w = {0x4A01, 0x8001, 1, CHUDOPOLK_NOTIFICATION};
@@ -62,14 +63,19 @@ static void table(const char *name, chudopolk_form form, size_t types_len, uint3
 }
 
 static void tables(void) {
-    static const uint64_t wild[] = {256, 257, 258, 260, 65536, 65537, 65538, (uint64_t)1 << 32, ((uint64_t)1 << 32) + 1, (uint64_t)1 << 40, UINT64_MAX};
+    static const uint64_t wild[] = {
+        256, 257, 258, 260, 65536, 65537, 65538, (uint64_t)1 << 32, ((uint64_t)1 << 32) + 1, (uint64_t)1 << 40, UINT64_MAX,
+    };
     static const size_t counts[] = {0, 6, 64, 65, 1000, SIZE_MAX / 5 + 1, SIZE_MAX};
     static const uint32_t widths[] = {0, 3, 5, 8, 257, UINT32_MAX}, marks[] = {2, 9, 256, 257, UINT32_MAX};
     table("table W", form_w, 25, CHUDOPOLK_VERDICT_ACCEPTED);
-    for (size_t i = 0; i < sizeof counts / sizeof *counts; i++) table("a wrong count", (chudopolk_form){counts[i], 1, 0}, 25, CHUDOPOLK_VERDICT_TABLE);
+    for (size_t i = 0; i < sizeof counts / sizeof *counts; i++)
+        table("a wrong count", (chudopolk_form){counts[i], 1, 0}, 25, CHUDOPOLK_VERDICT_TABLE);
     for (size_t n = 0; n < 25; n++) table("a short table", form_w, n, CHUDOPOLK_VERDICT_TABLE);
-    for (size_t i = 0; i < sizeof widths / sizeof *widths; i++) table("a wild width", (chudopolk_form){5, widths[i], 0}, 25, CHUDOPOLK_VERDICT_TABLE);
-    for (size_t i = 0; i < sizeof marks / sizeof *marks; i++) table("a wild mark", (chudopolk_form){5, 1, marks[i]}, 25, CHUDOPOLK_VERDICT_TABLE);
+    for (size_t i = 0; i < sizeof widths / sizeof *widths; i++)
+        table("a wild width", (chudopolk_form){5, widths[i], 0}, 25, CHUDOPOLK_VERDICT_TABLE);
+    for (size_t i = 0; i < sizeof marks / sizeof *marks; i++)
+        table("a wild mark", (chudopolk_form){5, 1, marks[i]}, 25, CHUDOPOLK_VERDICT_TABLE);
     for (size_t at = 0; at < 25; at++)
         for (size_t i = 0; i < sizeof wild / sizeof *wild; i++) {
             uint64_t old = types[at];
@@ -134,13 +140,16 @@ static void writing(void) {
     writes("a run far away", 18, UINT64_MAX, CHUDOPOLK_VERDICT_OUTSIDE);
     writes("a run without end", 19, UINT64_MAX, CHUDOPOLK_VERDICT_OUTSIDE);
     memcpy(values, values_w, sizeof values_w);
-    for (size_t n = 0; n < 20; n++)
-        expect("too few value rows", chudopolk_write_message(header_w, form_w, types, 25, values + 20 - n, n, content, 4, out, 60).verdict, CHUDOPOLK_VERDICT_ROOM);
+    for (size_t n = 0; n < 20; n++) {
+        chudopolk_sent s = chudopolk_write_message(header_w, form_w, types, 25, values + 20 - n, n, content, 4, out, 60);
+        expect("too few value rows", s.verdict, CHUDOPOLK_VERDICT_ROOM);
+    }
     for (unsigned kind = 0; kind < 256; kind++) {
         chudopolk_fields h = header_w;
         h.kind = (uint8_t)kind;
         int one = kind < 3 || kind == 0x80 || kind == 0x81;
-        expect("a Message Type", chudopolk_write_message(h, form_w, types, 25, values, 20, content, 4, out, 60).verdict, one ? 0 : CHUDOPOLK_VERDICT_TABLE);
+        chudopolk_sent s = chudopolk_write_message(h, form_w, types, 25, values, 20, content, 4, out, 60);
+        expect("a Message Type", s.verdict, one ? CHUDOPOLK_VERDICT_ACCEPTED : CHUDOPOLK_VERDICT_TABLE);
     }
     size_t len = chudopolk_write_message(header_w, form_w, types, 25, values, 20, content, 4, out, 60).len;
     for (size_t n = 0; n <= len; n++) {

@@ -19,11 +19,12 @@ use Rattle.wire.specs.Choose.{pick}
 use Rattle.payload.specs.Outcome.{changesNone}
 use Rattle.chudopolk.specs.declared.table.Form.{Form}
 use Rattle.chudopolk.specs.declared.head.Expectation.{Expectation}
+use Rattle.chudopolk.specs.declared.head.Answer.{Answer}
 use Rattle.chudopolk.specs.declared.head.Fields.{Fields}
 use Rattle.chudopolk.specs.declared.head.Sent.{Sent}
 use Rattle.chudopolk.specs.Table.{tableOf}
 use Rattle.chudopolk.specs.Rows.{rowsOf}
-use Rattle.chudopolk.specs.Head.{expectedOf, roomOf, headerOf, sentIs, sentOf}
+use Rattle.chudopolk.specs.Head.{expectedOf, answerOf, roomOf, valuesAfter, headerOf, sentIs, sentOf}
 use Rattle.chudopolk.specs.Calls.{readOf, writeOf, outOf}
 use Rattle.chudopolk.specs.Promises.{ValuesKept, HandsValues, OneRead, OneWrite}
 use Rattle.chudopolk.proofs.RowLaws.{flat-none, after-long, after-row, after-rest}
@@ -36,10 +37,13 @@ rows-in d e t values m h =
     rw h (law .within-rows, law .all-rows, omega (arith, law .within-room))
 
 -- a reading under what numbers stand for
-module _ (d types values : List ℕ) (x : Expectation) (form : Form) where
-  pub read-as : (e : Expected) (t : Table) (m : MessageReading) → e ≡ expectedOf x → t ≡ tableOf form types → m ≡ messageOf d e t (roomOf values)
-      → m ≡ readOf d x form types values
-  read-as e t m he ht h = h ∙ rw (he, ht)
+module _ (d types old : List ℕ) (x : Expectation) (form : Form) where
+  pub read-as : (e : Expected) (t : Table) (m : MessageReading) (after : List ℕ) (r : Answer) → e ≡ expectedOf x → t ≡ tableOf form types
+      → m ≡ messageOf d e t (roomOf old) → after ≡ valuesAfter m old → r ≡ answerOf m
+      → (r ≡ answerOf (readOf d x form types old)) × (after ≡ valuesAfter (readOf d x form types old) old)
+  read-as e t m after r he ht h put answer =
+      let same : m ≡ readOf d x form types old = h ∙ rw (he, ht) in
+      (answer ∙ ap answerOf same, put ∙ ap (λ (u : MessageReading). valuesAfter u old) same)
 
 -- a writing of what numbers stand for
 module _ (types values buf old : List ℕ) (f : Fields) (form : Form) where

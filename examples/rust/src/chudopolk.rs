@@ -146,11 +146,12 @@ pub struct Sent {
 extern "C" {
     fn chudopolk_check_table(form: Form, types: *const u64, types_len: usize) -> u32;
     fn chudopolk_read_message(
-        datagram: *const u8, datagram_len: usize, expected: Expectation, form: Form, types: *const u64, types_len: usize, values: *mut u64, values_len: usize,
+        datagram: *const u8, datagram_len: usize, expected: Expectation, form: Form, types: *const u64, types_len: usize, values: *mut u64,
+        values_len: usize,
     ) -> Answer;
     fn chudopolk_write_message(
-        header: Fields, form: Form, types: *const u64, types_len: usize, values: *const u64, values_len: usize, content: *const u8, content_len: usize,
-        out: *mut u8, out_len: usize,
+        header: Fields, form: Form, types: *const u64, types_len: usize, values: *const u64, values_len: usize, content: *const u8,
+        content_len: usize, out: *mut u8, out_len: usize,
     ) -> Sent;
 }
 

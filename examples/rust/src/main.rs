@@ -42,7 +42,8 @@ fn main() {
     let expected = Expectation { service: 0x4A01, method: 0x8001, interface: 1, kind: message_type::NOTIFICATION };
     let read = read_message(&DATAGRAM, expected, FORM, &TYPES, &mut values);
     println!("verdict {} code {} place {} skipped {}", read.verdict, read.code, read.place, read.skipped);
-    println!("client {} session {} payload {} {} rest {} {}", read.client, read.session, read.payload_at, read.payload_len, read.rest_at, read.rest_len);
+    let (payload, rest) = ((read.payload_at, read.payload_len), (read.rest_at, read.rest_len));
+    println!("client {} session {} payload {} {} rest {} {}", read.client, read.session, payload.0, payload.1, rest.0, rest.1);
     for (i, value) in values.iter().enumerate() {
         println!("{} {} {}", i + 1, TYPES[i].ident, shown(value));
     }

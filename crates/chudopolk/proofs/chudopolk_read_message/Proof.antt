@@ -1,10 +1,7 @@
 -- `chudopolk::chudopolk_read_message` meets its contract: the library's own reading, under what the numbers stand for. By what `message`
 -- promises there is room for its rows.
 -- Assumes nothing.
-use mathlib.Core.Path.{ap, _∙_}
 use denote.Ref.{now}
-use Rattle.message.specs.declared.read.MessageReading.{MessageReading}
-use Rattle.chudopolk.specs.Head.{answerOf, valuesAfter}
 use Rattle.chudopolk.proofs.HeadLaws.{rows-in, read-as}
 use borrow.Author.Needs.{needs}
 use Rattle.chudopolk.proofs.chudopolk_read_message.Statement.{statement}
@@ -32,16 +29,15 @@ same-length c = search needs
 
 returns : tie.Need-returns
 returns c =
-    let c7 = c .before .before .before .before .before .before .before in
-    let start = c7 .before .before .before .before .before .before in
+    let read = c .before .before .before .before .before .before .before in
+    let start = read .before .before .before .before .before .before in
     let a = start .args in
-    let old = now (a .values) in
-    let read = c7 .read-by-value in
-    let expected = c7 .before .expected-of .ensures in
-    let table = c7 .before .before .table-of .ensures in
-    let same = read-as (now (a .datagram)) (now (a .types)) old (a .expected) (a .form) _ _ (read .result) expected table (read .ensures) in
-    let put = c .before .before .before .put-rows .ensures in
-    (c .answer-of .ensures ∙ ap answerOf same, put ∙ ap (λ (m : MessageReading). valuesAfter m old) same)
+    read-as (now (a .datagram)) (now (a .types)) (now (a .values)) (a .expected) (a .form) _ _ (read .read-by-value .result) _ _
+    (read .before .expected-of .ensures)
+    (read .before .before .table-of .ensures)
+    (read .read-by-value .ensures)
+    (c .before .before .before .put-rows .ensures)
+    (c .answer-of .ensures)
 
 pub chudopolk-read-message-spec : {M : Type 1} → statement M
 chudopolk-read-message-spec =
