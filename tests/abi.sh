@@ -1,7 +1,7 @@
 #!/bin/sh
 # Builds and runs the C and the Rust example on the static library and compares what they print; checks the header; calls the library with
-# wrong counts, short arrays and wild numbers.
-#   tests/abi.sh
+# wrong counts, short arrays and wild numbers; and compares it with the second program, on x86-64.
+#   tests/abi.sh [SEED COUNT]      the second program's cases, 2 and 2000 if not named
 # The archive is built first where it isn't there, or is older than a source file. It is x86-64 code. On another processor the programs are
 # made by a cross compiler (CC, or x86_64-linux-gnu-gcc) and by cargo for x86_64-unknown-linux-gnu, linked statically, and run under the
 # kit's emulator. Status 0: all is as it should be; 1: something isn't; 2: it could not run.
@@ -12,6 +12,9 @@ fail() { # STATUS MESSAGE
     exit "$1"
 }
 
+[ $# -eq 0 ] || [ $# -eq 2 ] || fail 2 "usage: tests/abi.sh [SEED COUNT]"
+seed=${1:-2} count=${2:-2000}
+export PYTHONDONTWRITEBYTECODE=1
 root=$(cd "$(dirname "$0")/.." && pwd -P) || exit 2
 archive=$root/target/staticlib/libchudopolk.a
 expected=$root/tests/abi/expected
@@ -51,7 +54,7 @@ fi
 
 # ---- the header
 
-PYTHONDONTWRITEBYTECODE=1 python3 "$root/tests/abi/header.py" "$root" || fail 1 "the header and the source differ"
+python3 "$root/tests/abi/header.py" "$root" || fail 1 "the header and the source differ"
 
 # ---- the programs
 
@@ -85,3 +88,12 @@ prints 'the Rust example' "$room/cargo/$rust_target/release/lorry"
 
 compile tests/abi/wild.c "$room/wild"
 run "$room/wild" || fail 1 "wrong counts, short arrays or wild numbers get another answer than they should"
+
+# ---- the second program
+
+if [ "$machine" = x86_64 ]; then
+    "$cc" -shared -o "$room/library.so" -Wl,--whole-archive "$archive" -Wl,--no-whole-archive || fail 1 "the archive could not be linked"
+    mkdir "$room/cases"
+    python3 "$root/tests/second/gen.py" "$seed" "$count" "$room/cases" >/dev/null || fail 2 "no cases could be made"
+    python3 "$root/tests/abi/second.py" "$room/library.so" "$room/cases/stdin" || fail 1 "the library and the second program differ"
+fi
