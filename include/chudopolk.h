@@ -47,7 +47,7 @@ enum chudopolk_verdict {
     CHUDOPOLK_VERDICT_ARRAY = 25,         /* an array's length is no multiple of its element size */
     CHUDOPOLK_VERDICT_TEXT = 26,          /* a string's content is ill formed */
     CHUDOPOLK_VERDICT_MISSING = 27,       /* a level ends without a required member */
-    CHUDOPOLK_VERDICT_VALUE = 30,         /* to write: a value not of its kind or range, ill formed, absent though required, or under an absent struct */
+    CHUDOPOLK_VERDICT_VALUE = 30,         /* to write: a value not of its kind or range, ill formed, absent though required, or under an absent one */
     CHUDOPOLK_VERDICT_OUTSIDE = 31,       /* to write: a run of bytes past the content buffer */
     CHUDOPOLK_VERDICT_WIDE = 32,          /* to write: content over what the length field holds */
     CHUDOPOLK_VERDICT_HEAVY = 33          /* to write: payload over 1,400 bytes */

@@ -4,3 +4,4 @@ mod HeadLaws
 mod ValueLaws
 mod Kept
 pub mod Promises
+mod Back

@@ -1,9 +1,10 @@
 -- The promises of specs/Promises.antt, each by the law that shows it.
 -- Assumes nothing.
-use Rattle.chudopolk.specs.Promises.{TablesKept, WildUnfit, HandsRows, HandsValues, OneRead, OneWrite}
+use Rattle.chudopolk.specs.Promises.{TablesKept, WildUnfit, HandsRows, HandsValues, ShownBack, OneRead, OneWrite}
 use Rattle.chudopolk.proofs.Kept as table
 use Rattle.chudopolk.proofs.ValueLaws as value
 use Rattle.chudopolk.proofs.HeadLaws as head
+use Rattle.chudopolk.proofs.Back as row
 
 pub tables-kept : TablesKept
 tables-kept = table.tables-kept
@@ -16,6 +17,9 @@ hands-rows = value.hands-rows
 
 pub hands-values : HandsValues
 hands-values = head.hands-values
+
+pub shown-back : ShownBack
+shown-back = row.shown-back
 
 pub one-read : OneRead
 one-read = head.one-read

@@ -1,7 +1,7 @@
 -- What this crate promises beside its functions' contracts, a statement under each sentence. The proofs cite them in proofs/Promises.antt, in the
 -- same order.
 use mathlib.Core.Path.{_≡_}
-use Prim.Native.Nat.{ℕ, _+_, _*_, _/_, _≤_, _<_}
+use Prim.Native.Nat.{ℕ, _+_, _*_, _^_, _≤_, _<_}
 use mathlib.Core.Bool.{true}
 use mathlib.Core.List.{List, _∷_}
 use lib.ListN.{length, take, drop, getD}
@@ -10,7 +10,9 @@ use Rattle.payload.specs.declared.table.TypeRow.{TypeRow}
 use Rattle.payload.specs.declared.row.Row.{Row}
 use Rattle.payload.specs.declared.judge.Judged.the-variants.{Unfit}
 use Rattle.payload.specs.Table.{typeRows, rowAt as typeAt, tableFits}
-use Rattle.payload.specs.Row.{absentRow}
+use Rattle.payload.specs.declared.row.Value.the-variants.{Bytes}
+use Rattle.payload.specs.Row.{plain, absentRow, membersRow, numberRow}
+use Rattle.wire.specs.Kind.{sizeOf, string}
 use Rattle.payload.specs.Judging.{judgedFrom}
 use Rattle.payload.specs.Outcome.{changesNone}
 use Rattle.message.specs.declared.read.Expected.{Expected}
@@ -79,9 +81,22 @@ pub record ValuesKept (m : MessageReading) (old : List ℕ) : Type 0 where
 abbrev pub HandsValues : Type 0
 HandsValues = (d : List ℕ) (e : Expected) (t : Table) (old : List ℕ) → ValuesKept (messageOf d e t (roomOf old)) old
 
+-- the row that four numbers of a row stand for
+abbrev pub back : Row → Row
+back r = rowAt (fourOf r) 0
+
+pub record ShownBack : Type 0 where
+  pub absent-back : back absentRow ≡ absentRow
+  pub members-back : back membersRow ≡ membersRow
+  pub run-back : (place len : ℕ) → back (plain (Bytes place len)) ≡ plain (Bytes place len)
+  pub number-back : (k v : ℕ) → 0 < k → k < string → v < 256 ^ sizeOf k → back (numberRow k v) ≡ numberRow k v
+
+-- C5. The numbers of a row that a reading shows stand for that row: what was read can be handed back to be written. `numberRow` is what the
+-- reader shows of a number v of kind k.
+
 -- ---- one answer
 
--- C5. Any two answers, with the arrays after, that meet the contract of a function are equal.
+-- C6. Any two answers, with the arrays after, that meet the contract of a function are equal.
 abbrev pub OneRead : Type 0
 OneRead =
     (d types old : List ℕ) (x : Expectation) (form : Form) (r s : Answer) (after other : List ℕ)
