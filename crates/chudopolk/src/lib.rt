@@ -46,7 +46,7 @@ pub extern "C" fn chudopolk_read_message(
 {
     let t = table::table_of(form, types);
     let e = head::expected_of(expected);
-    let m = read::read_by_value(datagram, e, t, values.len() / 4);
+    let m = read::read_by_value(datagram, e, t, values.len() / rows::NUMBERS);
     let got = m.reading;
     let all = got.rows;
     rows::put_rows(values, all, got.filled);
@@ -72,7 +72,7 @@ pub extern "C" fn chudopolk_write_message(
     let h = head::header_of(header);
     let all = rows::rows_of(values);
     let t = table::table_of(form, types);
-    let w = write::write_by_value(h, all, values.len() / 4, t, content, out);
+    let w = write::write_by_value(h, all, values.len() / rows::NUMBERS, t, content, out);
     let v = w.verdict;
     head::sent_of(v, w.len)
 }

@@ -12,7 +12,7 @@ use payload::row::Value;
 use wire::number;
 
 // The numbers of a value row.
-const NUMBERS: usize = 4;
+pub const NUMBERS: usize = 4;
 
 // A value row as numbers: what the value is, its number or bits, and the place and length of a run.
 struct Numbers {
