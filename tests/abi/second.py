@@ -3,7 +3,7 @@
 
     tests/abi/second.py LIBRARY CASES
 
-LIBRARY is the archive linked as a shared object, CASES a file in the form of tests/second/FORMAT.md. Of its cases those of messages and tables
+LIBRARY is the archive linked as a shared object, CASES a file in the form of docs/CASES.md. Of its cases those of messages and tables
 are run; a payload alone is no function of the library. Prints each difference, and ends with status 1 if there is one.
 """
 import ctypes
@@ -51,7 +51,7 @@ def four(row):
 
 
 class ByLibrary(answer.Answerer):
-    """Answers as the second program does, by the library: what is compared is what both say in FORMAT.md's words."""
+    """Answers as the second program does, by the library: what is compared is what both say in docs/CASES.md's words."""
 
     def __init__(self, path):
         super().__init__()
@@ -90,7 +90,7 @@ class ByLibrary(answer.Answerer):
         return lines + [f"{i + 1} {self.row_words(i, list(values[4 * i : 4 * i + 4]))}" for i in range(self.room)]
 
     def row_words(self, i, row):
-        """A row that was left alone shows what FORMAT.md has in it before a case."""
+        """A row that was left alone shows what docs/CASES.md has in it before a case."""
         if row == [OLD] * 4:
             return answer.row_words(answer.lent_row(i + 1))
         what, number, place, length = row

@@ -1,6 +1,6 @@
 """What the library is asked to write: two tables, the values for them, and the cases for the program `vectors`, which runs the library.
 
-The form of cases and answers is that of tests/second/FORMAT.md; nothing else of the second program is used. A value is None where the row
+The form of cases and answers is that of docs/CASES.md; nothing else of the second program is used. A value is None where the row
 is absent, PRESENT for a struct, a whole number (a float's bits), the bytes of a text, or a tuple of an array's elements.
 """
 import random

@@ -1,5 +1,5 @@
 #!/usr/bin/env python3
-"""Answers cases in the form of FORMAT.md by the second program.
+"""Answers cases in the form of docs/CASES.md by the second program.
 
     python3 tests/second/answer.py < stdin > stdout
 """

@@ -1,5 +1,5 @@
 #!/usr/bin/env python3
-"""Makes cases in the form of FORMAT.md, with the answers of the second program.
+"""Makes cases in the form of docs/CASES.md, with the answers of the second program.
 
     python3 tests/second/gen.py SEED COUNT DIR
 
@@ -21,7 +21,7 @@ from shapes import Member, flat
 from sip import ARRAY, MESSAGE_TYPES, MOST_PAYLOAD_BYTES, NUMBER_KINDS, STRING, STRUCT
 
 
-MOST_LABEL, MOST_DATA, MOST_LENT_ROWS = 64, 2048, 72  # as FORMAT.md promises
+MOST_LABEL, MOST_DATA, MOST_LENT_ROWS = 64, 2048, 72  # as docs/CASES.md promises
 
 
 class Cases:

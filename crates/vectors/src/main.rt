@@ -1,4 +1,4 @@
-// Runs the cases that standard input has and writes what the library answers, both in the form of tests/second/FORMAT.md.
+// Runs the cases that standard input has and writes what the library answers, both in the form of docs/CASES.md.
 mod input;
 mod lent;
 mod show;

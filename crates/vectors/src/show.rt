@@ -1,4 +1,4 @@
-// The answers, in the form of tests/second/FORMAT.md. Each follows its case's label.
+// The answers, in the form of docs/CASES.md. Each follows its case's label.
 
 ghost use Prim.Native.Nat.{_<_};
 use super::input;
