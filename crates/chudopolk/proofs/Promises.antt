@@ -1,6 +1,7 @@
 -- The promises of specs/Promises.antt, each by the law that shows it.
 -- Assumes nothing.
-use Rattle.chudopolk.specs.Promises.{TablesKept, WildUnfit, HandsRows, HandsValues, ShownBack, OneRead, OneWrite}
+use mathlib.Core.Path.{sym, _∙_}
+use Rattle.chudopolk.specs.Promises.{TablesKept, WildUnfit, HandsRows, HandsValues, ShownBack, OneRead, OneWrite, OneCheck}
 use Rattle.chudopolk.proofs.Kept as table
 use Rattle.chudopolk.proofs.ValueLaws as value
 use Rattle.chudopolk.proofs.HeadLaws as head
@@ -26,3 +27,6 @@ one-read = head.one-read
 
 pub one-write : OneWrite
 one-write = head.one-write
+
+pub one-check : OneCheck
+one-check form types r s d e = d ∙ sym e

@@ -27,7 +27,7 @@ use Rattle.chudopolk.specs.declared.head.Sent.{Sent}
 use Rattle.chudopolk.specs.Table.{tableOf}
 use Rattle.chudopolk.specs.Rows.{fourOf, rowOf, rowAt, rowsOf}
 use Rattle.chudopolk.specs.Head.{answerOf, roomOf, valuesAfter, sentOf}
-use Rattle.chudopolk.specs.Calls.{readOf, writeOf, outOf}
+use Rattle.chudopolk.specs.Calls.{checkOf, readOf, writeOf, outOf}
 
 -- ---- a table
 
@@ -110,3 +110,6 @@ OneWrite =
     → (r ≡ sentOf (writeOf f form types values buf (length old))) × (after ≡ outOf f form types values buf old)
     → (s ≡ sentOf (writeOf f form types values buf (length old))) × (other ≡ outOf f form types values buf old)
     → (r ≡ s) × (after ≡ other)
+
+abbrev pub OneCheck : Type 0
+OneCheck = (form : Form) (types : List ℕ) (r s : ℕ) → r ≡ checkOf form types → s ≡ checkOf form types → r ≡ s
