@@ -26,7 +26,7 @@ use Rattle.payload.proofs.Promises.{room-last, done-exactly, write-settled}
 use Rattle.message.specs.declared.header.Header.{Header}
 use Rattle.message.specs.MessageType.{isOne}
 use Rattle.message.specs.Header.{headerLen, headerBytes}
-use Rattle.message.specs.Writing.{messageBytes, framed, sendingOf, messageWriting, messageOutput}
+use Rattle.message.specs.Writing.{messageBytes, framed, sendingOf, messageWriting, messageOutput, bodyAt}
 
 -- ---- the header's nine stores
 
@@ -54,19 +54,26 @@ message-size h p = length-append (headerBytes h (length p)) p ∙ rw (header-siz
 
 -- ---- the output, with the payload's part put back behind the header's place
 
--- the part behind the header's place, as the code lends it
-whole-part : (old : List ℕ) → take (length old - headerLen) (drop headerLen old) ≡ drop headerLen old
-whole-part old = take-all (length old - headerLen) (drop headerLen old) (omega (arith, length-drop headerLen old))
+pub body-within : (n from : ℕ) → from ≡ bodyAt n → from ≤ n
+body-within n from e = go (ltb n headerLen) refl
+  where
+    go : (b : Bool) → ltb n headerLen ≡ b → from ≤ n
+    go true t = omega (arith, (let x : from ≡ n = e ∙ rw t in x))
+    go false t = omega (arith, (let x : from ≡ headerLen = e ∙ rw t in x), ltb-false n headerLen t)
 
-pub front-room : (old x : List ℕ) → headerLen ≤ length old → headerLen ≤ length (take headerLen old ++ x)
-front-room old x h = omega (arith, length-append (take headerLen old) x, length-take-le headerLen old h)
+-- the part from a place on, as the code lends it
+whole-part : (from : ℕ) (old : List ℕ) → take (length old - from) (drop from old) ≡ drop from old
+whole-part from old = take-all (length old - from) (drop from old) (omega (arith, length-drop from old))
+
+pub front-room : (from : ℕ) (old x : List ℕ) → from ≡ headerLen → headerLen ≤ length old → headerLen ≤ length (take from old ++ x)
+front-room from old x e h = rw e (omega (arith, length-append (take headerLen old) x, length-take-le headerLen old h))
 
 -- nothing stands behind it
-none-behind : (old : List ℕ) → drop (length old - headerLen) (drop headerLen old) ≡ []
-none-behind old = ap (λ (n : ℕ). drop n (drop headerLen old)) (sym (length-drop headerLen old)) ∙ drop-length (drop headerLen old)
+none-behind : (from : ℕ) (old : List ℕ) → drop (length old - from) (drop from old) ≡ []
+none-behind from old = ap (λ (n : ℕ). drop n (drop from old)) (sym (length-drop from old)) ∙ drop-length (drop from old)
 
-part-back : (old : List ℕ) → take headerLen old ++ (drop headerLen old ++ drop (length old - headerLen) (drop headerLen old)) ≡ old
-part-back old = rw (none-behind old, append-nil (drop headerLen old)) (take-append-drop headerLen old)
+part-back : (from : ℕ) (old : List ℕ) → take from old ++ (drop from old ++ drop (length old - from) (drop from old)) ≡ old
+part-back from old = rw (none-behind from old, append-nil (drop from old)) (take-append-drop from old)
 
 pub part-front : (l : List ℕ) (p : List ℕ) → length p ≤ length l → sets l 0 p ≡ p ++ drop (length p) l
 part-front l p h = let k : 0 + length p ≤ length l = omega arith in rw zero-add at (sets-eq p l 0 k)
@@ -79,7 +86,7 @@ module _ (h : Header) (old p : List ℕ) (f : headerLen + length p ≤ length ol
   behind-is : behind ≡ p ++ drop (headerLen + length p) old
   unfolding behind
   behind-is =
-      rw (none-behind old, append-nil (sets (drop headerLen old) 0 p))
+      rw (none-behind headerLen old, append-nil (sets (drop headerLen old) 0 p))
       (part-front (drop headerLen old) p (omega (arith, length-drop headerLen old)) ∙ rw (drop-drop (length p) headerLen old))
 
   -- the header stored before it
@@ -192,67 +199,101 @@ module _ (h : Header) (rows : List Row) (room : ℕ) (t : Table) (buf old : List
     unfolding sendingOf
     sending-is = rw (sym ke ∙ k)
 
-    module _ (s : length old < headerLen) (w : Written) (space : ℕ) (none : space ≡ 0) (we : w ≡ writingOf rows room t buf space) where
-      short : Short h old (outcomeOf rows room t buf payloadMost) w
-      unfolding writingOf
-      short =
-          rw (we, none, room-last rows room t buf 0)
-          (short-by h old s (outcomeOf rows room t buf payloadMost) (done-exactly rows room t buf payloadMost .refuses-truly))
+    module _ (from : ℕ) (fe : from ≡ bodyAt (length old)) (w : Written) (part : List ℕ)
+        (we : w ≡ writingOf rows room t buf (length (take (length old - from) (drop from old))))
+        (pe : part ≡ outputOf rows room t buf (take (length old - from) (drop from old))) where
+      -- the output as the payload's writing leaves it
+      abbrev left : List ℕ
+      left = take from old ++ (part ++ drop (length old - from) (drop from old))
 
-      pub short-room : verdictNumber (w .verdict) ≡ 0 → (r : Written) → r ≡ answerIs (refused Room) → r ≡ messageWriting h rows room t buf (length old)
-      unfolding messageWriting
-      short-room z r e = e ∙ short .no-room z ∙ rw sending-is
+      -- an output in which no header fits
+      module _ (s : length old < headerLen) where
+        at-end : from ≡ length old
+        at-end = fe ∙ rw (lt-ltb (length old) headerLen s)
 
-      pub short-answer : (verdictNumber (w .verdict) ≡ 0 → ⊥) → w ≡ messageWriting h rows room t buf (length old)
-      unfolding messageWriting
-      short-answer z = short .same-answer z ∙ rw sending-is
+        no-room : length (drop from old) ≡ 0
+        no-room = omega (arith, length-drop from old, at-end)
 
-      pub short-output : (part : List ℕ) → part ≡ outputOf rows room t buf [] → part ++ old ≡ messageOutput h rows room t buf old
-      unfolding messageOutput
-      short-output part e =
-          rw (no-bytes part (ap length e ∙ write-settled rows room t buf [] .same-length)) (short .unchanged ∙ rw sending-is)
+        short : Short h old (outcomeOf rows room t buf payloadMost) w
+        unfolding writingOf
+        short =
+            rw (we, whole-part from old, no-room, room-last rows room t buf 0)
+            (short-by h old s (outcomeOf rows room t buf payloadMost) (done-exactly rows room t buf payloadMost .refuses-truly))
 
-    module _ (s : headerLen ≤ length old) (w : Written) (part : List ℕ)
-        (we : w ≡ writingOf rows room t buf (length (take (length old - headerLen) (drop headerLen old))))
-        (pe : part ≡ outputOf rows room t buf (take (length old - headerLen) (drop headerLen old))) where
-      long : Long h old (outcomeOf rows room t buf payloadMost) w part
-      unfolding writingOf outputOf
-      long =
-          rw (we, pe, whole-part old, length-drop headerLen old, room-last rows room t buf (length old - headerLen))
-          (long-by h old s (outcomeOf rows room t buf payloadMost) (done-exactly rows room t buf payloadMost .refuses-truly))
+        pub short-room : verdictNumber (w .verdict) ≡ 0 → (r : Written) → r ≡ answerIs (refused Room) → r ≡ messageWriting h rows room t buf (length old)
+        unfolding messageWriting
+        short-room z r e = e ∙ short .no-room z ∙ rw sending-is
 
-      pub long-answer : (verdictNumber (w .verdict) ≡ 0 → ⊥) → w ≡ messageWriting h rows room t buf (length old)
-      unfolding messageWriting
-      long-answer z = long .same-answer z ∙ rw sending-is
+        short-answer : (verdictNumber (w .verdict) ≡ 0 → ⊥) → w ≡ messageWriting h rows room t buf (length old)
+        unfolding messageWriting
+        short-answer z = short .same-answer z ∙ rw sending-is
 
-      pub long-output : (verdictNumber (w .verdict) ≡ 0 → ⊥)
-          → take headerLen old ++ (part ++ drop (length old - headerLen) (drop headerLen old)) ≡ messageOutput h rows room t buf old
-      unfolding messageOutput
-      long-output z = rw (long .unchanged z .0) (part-back old ∙ long .unchanged z .1 ∙ rw sending-is)
+        pub short-output : left ≡ messageOutput h rows room t buf old
+        unfolding messageOutput
+        short-output =
+            let same = write-settled rows room t buf (take (length old - from) (drop from old)) .same-length in
+            let p0 : part ≡ [] = no-bytes part (ap length pe ∙ same ∙ ap length (whole-part from old) ∙ no-room) in
+            let d0 : drop from old ≡ [] = no-bytes (drop from old) no-room in
+            (ap (λ (q : List ℕ). take from old ++ (q ++ drop (length old - from) (drop from old))) (p0 ∙ sym d0))
+            ∙ part-back from old
+            ∙ short .unchanged
+            ∙ rw sending-is
 
-      module _ (z : verdictNumber (w .verdict) ≡ 0) where
-        -- few enough that their number fits
-        pub body-few : (w .len ≤ payloadMost) × (headerLen + w .len ≤ length old)
-        body-few =
-            let c = long .carried z in
-            (rw we (write-settled rows room t buf (take (length old - headerLen) (drop headerLen old)) .most), omega (arith, c .len-is, c .fits))
+      -- an output in which one does
+      module _ (s : headerLen ≤ length old) where
+        pub behind-header : from ≡ headerLen
+        behind-header = fe ∙ rw (le-ltb (length old) headerLen s)
 
-        pub done-answer : record { verdict = Accepted; len = headerLen + w .len } ≡ messageWriting h rows room t buf (length old)
-        unfolding messageWriting answerIs
-        done-answer =
-            let c = long .carried z in
-            ap (λ (n : ℕ). record { verdict = Accepted; len = headerLen + n }) (c .len-is)
-            ∙ rw (sending-is, c .sent, message-size h (c .payload))
+        long : Long h old (outcomeOf rows room t buf payloadMost) w part
+        unfolding writingOf outputOf
+        long =
+            rw (we, pe, whole-part from old, behind-header, length-drop headerLen old, room-last rows room t buf (length old - headerLen))
+            (long-by h old s (outcomeOf rows room t buf payloadMost) (done-exactly rows room t buf payloadMost .refuses-truly))
 
-        pub done-output : (after : List ℕ)
-            → after ≡ sets (take headerLen old ++ (part ++ drop (length old - headerLen) (drop headerLen old))) 0 (headerBytes h (w .len))
-            → after ≡ messageOutput h rows room t buf old
-        unfolding messageOutput outputIs behind
-        done-output after e =
-            let c = long .carried z in
-            let back : List ℕ → List ℕ = λ q. take headerLen old ++ (q ++ drop (length old - headerLen) (drop headerLen old)) in
-            e
-            ∙ ap (λ (n : ℕ). sets (back part) 0 (headerBytes h n)) (c .len-is)
-            ∙ ap (λ (q : List ℕ). sets (back q) 0 (headerBytes h (length (c .payload)))) (c .part-is)
-            ∙ framed-output h old (c .payload) (c .fits)
-            ∙ rw (sending-is, c .sent)
+        long-answer : (verdictNumber (w .verdict) ≡ 0 → ⊥) → w ≡ messageWriting h rows room t buf (length old)
+        unfolding messageWriting
+        long-answer z = long .same-answer z ∙ rw sending-is
+
+        long-output : (verdictNumber (w .verdict) ≡ 0 → ⊥) → left ≡ messageOutput h rows room t buf old
+        unfolding messageOutput
+        long-output z = rw (long .unchanged z .0, behind-header) (part-back headerLen old ∙ long .unchanged z .1 ∙ rw sending-is)
+
+        module _ (z : verdictNumber (w .verdict) ≡ 0) where
+          -- few enough that their number fits
+          pub body-few : (w .len ≤ payloadMost) × (headerLen + w .len ≤ length old)
+          body-few =
+              let c = long .carried z in
+              (rw we (write-settled rows room t buf (take (length old - from) (drop from old)) .most), omega (arith, c .len-is, c .fits))
+
+          pub done-answer : record { verdict = Accepted; len = headerLen + w .len } ≡ messageWriting h rows room t buf (length old)
+          unfolding messageWriting answerIs
+          done-answer =
+              let c = long .carried z in
+              ap (λ (n : ℕ). record { verdict = Accepted; len = headerLen + n }) (c .len-is)
+              ∙ rw (sending-is, c .sent, message-size h (c .payload))
+
+          pub done-output : (after : List ℕ) → after ≡ sets left 0 (headerBytes h (w .len)) → after ≡ messageOutput h rows room t buf old
+          unfolding messageOutput outputIs behind
+          done-output after e =
+              let c = long .carried z in
+              let back : List ℕ → List ℕ = λ q. take headerLen old ++ (q ++ drop (length old - headerLen) (drop headerLen old)) in
+              e
+              ∙ ap (λ (m : ℕ). sets (take m old ++ (part ++ drop (length old - m) (drop m old))) 0 (headerBytes h (w .len))) behind-header
+              ∙ ap (λ (n : ℕ). sets (back part) 0 (headerBytes h n)) (c .len-is)
+              ∙ ap (λ (q : List ℕ). sets (back q) 0 (headerBytes h (length (c .payload)))) (c .part-is)
+              ∙ framed-output h old (c .payload) (c .fits)
+              ∙ rw (sending-is, c .sent)
+
+      pub body-answer : (verdictNumber (w .verdict) ≡ 0 → ⊥) → w ≡ messageWriting h rows room t buf (length old)
+      body-answer z = go (ltb (length old) headerLen) refl
+        where
+          go : (b : Bool) → ltb (length old) headerLen ≡ b → w ≡ messageWriting h rows room t buf (length old)
+          go true e = short-answer (ltb-true (length old) headerLen e) z
+          go false e = long-answer (ltb-false (length old) headerLen e) z
+
+      pub body-output : (verdictNumber (w .verdict) ≡ 0 → ⊥) → left ≡ messageOutput h rows room t buf old
+      body-output z = go (ltb (length old) headerLen) refl
+        where
+          go : (b : Bool) → ltb (length old) headerLen ≡ b → left ≡ messageOutput h rows room t buf old
+          go true e = short-output (ltb-true (length old) headerLen e)
+          go false e = long-output (ltb-false (length old) headerLen e) z

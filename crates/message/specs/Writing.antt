@@ -35,3 +35,9 @@ messageWriting h rows room t buf space = answerIs (sendingOf h rows room t buf s
 -- A refused write changes no output byte; an accepted one changes the message's bytes only, from the output's start.
 unfoldable pub messageOutput : Header → List Row → ℕ → Table → List ℕ → List ℕ → List ℕ
 messageOutput h rows room t buf old = outputIs old (sendingOf h rows room t buf (length old))
+
+-- ---- the writer's own state
+
+-- where the payload begins in an output of so many bytes: behind the header, or, where none fits, at the end
+abbrev pub bodyAt : ℕ → ℕ
+bodyAt len = pick (ltb len headerLen) len headerLen

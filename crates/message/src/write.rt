@@ -6,7 +6,7 @@ ghost use lib.ListN.{length};
 ghost use lib.Seq.{sets};
 ghost use Rattle.payload.specs.Writing.{refused, answerIs};
 ghost use Rattle.message.specs.Header.{headerBytes};
-ghost use Rattle.message.specs.Writing.{messageWriting, messageOutput};
+ghost use Rattle.message.specs.Writing.{messageWriting, messageOutput, bodyAt};
 use super::header;
 use super::header::Header;
 use payload::row::Row;
@@ -39,6 +39,17 @@ fn put_header(out: &mut [u8], h: Header, n: usize)
     number::write_number(out, header::CODE_AT, 1, h.code as u64);
 }
 
+// Where the payload begins in an output of so many bytes: behind the header, or, where none fits, at the end. There only the verdict of the
+// payload's writing counts.
+fn body_at(len: usize) -> usize
+    ensures { λ r. ⌜ r ≡ bodyAt len ⌝ }
+{
+    if len < header::LEN {
+        return len;
+    }
+    header::LEN
+}
+
 // Writes the message of these rows, of which `room` are lent, from the output's start. A refusal changes no byte.
 pub fn write_by_value(
     h: Header,
@@ -54,19 +65,15 @@ pub fn write_by_value(
     if !h.kind.is_one() {
         return refuse(Verdict::Table);
     }
-    if out.len() < header::LEN {
-        // No message fits, so only the verdict is asked, of an output with no bytes.
-        let short = write::write_payload(rows, room, t, content, &mut out[0..0]);
-        let why = short.verdict;
-        if why.number() == 0 {
-            return refuse(Verdict::Room);
-        }
-        return short;
-    }
-    let body = write::write_payload(rows, room, t, content, &mut out[header::LEN..]);
+    let len = out.len();
+    let from = body_at(len);
+    let body = write::write_payload(rows, room, t, content, &mut out[from..]);
     let why = body.verdict;
     if why.number() != 0 {
         return body;
+    }
+    if len < header::LEN {
+        return refuse(Verdict::Room);
     }
     let n = body.len;
     put_header(out, h, n);
