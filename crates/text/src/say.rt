@@ -1,0 +1,38 @@
+// Text and numbers, written. Each function answers whether all was written.
+
+ghost use mathlib.Core.Path.{_≡_};
+ghost use lib.IntN.{natAbs};
+use wire::number;
+use wire::verdict::ReturnCode;
+
+// A word and a number.
+pub fn field(fd: i32, word: &[u8], n: u64) -> bool {
+    io::write_all(fd, word) && io::print_decimal(fd, n)
+}
+
+// A signed number without its sign: below 0 it is what its two's complement lacks to 2^64.
+fn magnitude(z: i64) -> u64
+    ensures { λ r. ⌜ r ≡ natAbs z ⌝ }
+{
+    let u = number::twos_of(z);
+    if u < 9223372036854775808 {
+        return u;
+    }
+    18446744073709551615 - u + 1
+}
+
+// A word and a signed number.
+pub fn signed(fd: i32, word: &[u8], z: i64) -> bool {
+    if z < 0 {
+        return io::write_all(fd, word) && field(fd, b"-", magnitude(z));
+    }
+    field(fd, word, magnitude(z))
+}
+
+// A verdict's return code.
+pub fn code(fd: i32, c: ReturnCode) -> bool {
+    match c {
+        ReturnCode::Code(x) => field(fd, b" code ", x as u64),
+        ReturnCode::None => io::write_all(fd, b" code none"),
+    }
+}
