@@ -7,6 +7,7 @@ pub mod decimal;
 pub mod float;
 pub mod input;
 pub mod number;
+pub mod quote;
 pub mod say;
 pub mod slice;
 pub mod word;

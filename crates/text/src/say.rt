@@ -1,7 +1,9 @@
 // Text and numbers, written. Each function answers whether all was written.
 
 ghost use mathlib.Core.Path.{_≡_};
+ghost use Prim.Native.Nat.{_<_};
 ghost use lib.IntN.{natAbs};
+use super::slice;
 use wire::number;
 use wire::verdict::ReturnCode;
 
@@ -27,6 +29,29 @@ pub fn signed(fd: i32, word: &[u8], z: i64) -> bool {
         return io::write_all(fd, word) && field(fd, b"-", magnitude(z));
     }
     field(fd, word, magnitude(z))
+}
+
+// A hexadecimal digit, in capitals.
+fn digit(x: u64) -> u8
+    requires { ⌜ x < 16 ⌝ }
+{
+    if x < 10 {
+        return b'0' + x as u8;
+    }
+    b'A' + (x - 10) as u8
+}
+
+// A number's last n hexadecimal digits, at most 16, in capitals.
+pub fn hex(fd: i32, number: u64, n: usize) -> bool {
+    let mut text = [b'0'; 16];
+    let mut v = number;
+    let mut i: usize = 16;
+    while 0 < i {
+        i -= 1;
+        text[i] = digit(v % 16);
+        v = v / 16;
+    }
+    io::write_all(fd, slice::between(&text, 16 - n % 17, 16))
 }
 
 // A verdict's return code.
