@@ -1,6 +1,6 @@
-// The fourteen kinds by name.
+// The fourteen kinds by name and number.
 
-use text::slice;
+use text::list;
 
 pub const BOOLEAN: u8 = 1;
 
@@ -16,74 +16,16 @@ pub const ARRAY: u8 = 13;
 
 pub const STRUCT: u8 = 14;
 
-// The unsigned kinds, 1 to 5, or 0.
-fn unsigned_of(word: &[u8]) -> u8 {
-    if slice::alike(word, b"boolean") {
-        return BOOLEAN;
-    }
-    if slice::alike(word, b"uint8") {
-        return 2;
-    }
-    if slice::alike(word, b"uint16") {
-        return 3;
-    }
-    if slice::alike(word, b"uint32") {
-        return 4;
-    }
-    if slice::alike(word, b"uint64") {
-        return 5;
-    }
-    0
-}
-
-// The signed kinds, 6 to 9, or 0.
-fn signed_of(word: &[u8]) -> u8 {
-    if slice::alike(word, b"sint8") {
-        return SINT8;
-    }
-    if slice::alike(word, b"sint16") {
-        return 7;
-    }
-    if slice::alike(word, b"sint32") {
-        return 8;
-    }
-    if slice::alike(word, b"sint64") {
-        return 9;
-    }
-    0
-}
-
-// The other kinds, 10 to 14, or 0.
-fn other_of(word: &[u8]) -> u8 {
-    if slice::alike(word, b"float32") {
-        return FLOAT32;
-    }
-    if slice::alike(word, b"float64") {
-        return FLOAT64;
-    }
-    if slice::alike(word, b"string") {
-        return STRING;
-    }
-    if slice::alike(word, b"array") {
-        return ARRAY;
-    }
-    if slice::alike(word, b"struct") {
-        return STRUCT;
-    }
-    0
-}
-
 // The kind of a name, or 0.
 pub fn of_name(word: &[u8]) -> u8 {
-    let u = unsigned_of(word);
-    if u != 0 {
-        return u;
+    let n = list::index(
+        b";boolean;uint8;uint16;uint32;uint64;sint8;sint16;sint32;sint64;float32;float64;string;array;struct;",
+        word,
+    );
+    if n < 15 {
+        return n as u8;
     }
-    let s = signed_of(word);
-    if s != 0 {
-        return s;
-    }
-    other_of(word)
+    0
 }
 
 // The bytes of a kind from 1 to 11, and 0 of the others.

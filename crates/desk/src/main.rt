@@ -1,6 +1,6 @@
 // The desk's program: shows datagrams under a type table that a person wrote, and makes a datagram from values.
 //
-//     desk show TABLE [FILE...]       desk show-hex TABLE [FILE...]
+//     desk show TABLE [FILE...]       desk show-hex TABLE [FILE...]       desk make TABLE VALUES
 //
 // A Rattle program has no exit status: whatever went wrong stands on standard error, and nothing else does.
 
@@ -8,36 +8,27 @@ mod complain;
 mod files;
 mod hex;
 mod kind;
+mod make;
 mod row_line;
+mod scalar;
 mod show;
 mod table_file;
 mod tally;
 mod value_out;
+mod values;
 mod words;
 
 use libc::STDERR_FILENO;
 use table_file::Sheet;
 use tally::Tally;
 use text::input::Input;
+use text::list;
 use text::slice;
 
-// What the program is asked for.
-enum Command {
-    Show,
-    ShowHex,
-    None,
-}
+// What the program is asked for, beside show, which is 0.
+const SHOW_HEX: usize = 1;
 
-// The command of a word.
-fn command_of(word: &[u8]) -> Command {
-    if slice::alike(word, b"show") {
-        return Command::Show;
-    }
-    if slice::alike(word, b"show-hex") {
-        return Command::ShowHex;
-    }
-    Command::None
-}
+const MAKE: usize = 2;
 
 // Shows the datagram of a file.
 fn show_file(path: &[u8], many: bool, is_hex: bool, s: Sheet, all: &[u8], tally: Tally) -> Tally {
@@ -83,21 +74,47 @@ fn show_all(is_hex: bool, s: Sheet, all: &[u8]) {
     }
 }
 
+// Makes the datagram of the values in a file, or of those on standard input.
+fn make_file(path: &[u8], s: Sheet, all: &[u8]) {
+    let mut buf = io::large_buffer();
+    match files::read_file(path, &mut buf) {
+        Input::Bytes(n) => make::from_text(path, slice::between(&buf, 0, n), s, all),
+        Input::Long => {
+            complain::of_file(
+                path,
+                b"longer than 65535 bytes, the most that a file of values has",
+            );
+        }
+        Input::Failed => {}
+    }
+}
+
+// The same of the file that the argument behind the table names.
+fn make_argument(s: Sheet, all: &[u8]) {
+    if os::arg_count() <= 3 {
+        make_file(b"-", s, all);
+        return;
+    }
+    let mut path = io::buffer();
+    let k = os::arg(3, &mut path);
+    make_file(&path[..k], s, all);
+}
+
 // Does what is asked under the table of a text.
-fn run(command: Command, path: &[u8], all: &[u8]) {
+fn run(command: usize, path: &[u8], all: &[u8]) {
     let s = table_file::read(path, all);
     if !s.ok {
         return;
     }
-    match command {
-        Command::Show => show_all(false, s, all),
-        Command::ShowHex => show_all(true, s, all),
-        Command::None => {}
+    if command == MAKE {
+        make_argument(s, all);
+        return;
     }
+    show_all(command == SHOW_HEX, s, all);
 }
 
 // Does what is asked under the table of a file.
-fn run_file(command: Command, path: &[u8]) {
+fn run_file(command: usize, path: &[u8]) {
     let mut buf = io::large_buffer();
     match files::read_file(path, &mut buf) {
         Input::Bytes(n) => run(command, path, slice::between(&buf, 0, n)),
@@ -115,15 +132,15 @@ fn run_file(command: Command, path: &[u8]) {
 fn usage() {
     io::write_all(
         STDERR_FILENO,
-        b"usage: desk show TABLE [FILE...], desk show-hex TABLE [FILE...]\n",
+        b"usage: desk show TABLE [FILE...], desk show-hex TABLE [FILE...], desk make TABLE [VALUES]\n",
     );
 }
 
 fn main() {
     let mut word = io::buffer();
     let n = os::arg(1, &mut word);
-    let command = command_of(&word[..n]);
-    if let Command::None = command {
+    let command = list::index(b"show;show-hex;make;", &word[..n]);
+    if MAKE < command {
         usage();
         return;
     }

@@ -9,6 +9,7 @@ use super::table_file::Name;
 use super::table_file::Sheet;
 use libc::STDERR_FILENO as ERR;
 use payload::table::TypeRow;
+use text::list;
 use text::say;
 use text::slice;
 use text::word;
@@ -90,18 +91,16 @@ fn kinds_at(path: &[u8], nth: usize, line: &[u8], at: usize) -> Kinds {
 }
 
 // What a mark is: required 1, optional 0, 2 where it is neither and a message has been given.
-fn mark_of(path: &[u8], nth: usize, mark: &[u8]) -> u8 {
-    if slice::alike(mark, b"required") {
-        return 1;
-    }
-    if slice::alike(mark, b"optional") {
-        return 0;
+fn mark_of(path: &[u8], nth: usize, mark: &[u8]) -> usize {
+    let n = list::index(b"optional;required;", mark);
+    if n < 2 {
+        return n;
     }
     if kind::of_name(mark) != 0 {
         complain::of_word(path, nth, mark, b": only an array has an element kind");
-        return 2;
+    } else {
+        complain::of_word(path, nth, mark, b" is neither required nor optional");
     }
-    complain::of_word(path, nth, mark, b" is neither required nor optional");
     2
 }
 
@@ -125,25 +124,21 @@ fn all_of_name(name: &[u8]) -> bool {
     true
 }
 
-// Whether a word begins as a name does.
-fn begins_name(name: &[u8]) -> bool {
+// Whether a word is a name: it begins with a letter or a low line.
+fn is_name(name: &[u8]) -> bool {
     match slice::byte_at(name, 0) {
-        b'a'..=b'z' | b'A'..=b'Z' | b'_' => true,
+        b'a'..=b'z' | b'A'..=b'Z' | b'_' => all_of_name(name),
         _ => false,
     }
 }
 
 // Whether a word means something in a line of values, so that no row can have it for a name.
 fn is_taken(name: &[u8]) -> bool {
-    slice::alike(name, b"verdict")
-        || slice::alike(name, b"client")
-        || slice::alike(name, b"session")
-        || slice::alike(name, b"code")
-        || slice::alike(name, b"after")
-        || slice::alike(name, b"inf")
-        || slice::alike(name, b"nan")
-        || slice::alike(name, b"true")
-        || slice::alike(name, b"false")
+    list::index(
+        b"verdict;client;session;code;after;inf;nan;true;false;",
+        name,
+    )
+        < 9
 }
 
 // Whether a word can be a name.
@@ -163,7 +158,7 @@ fn name_fits(path: &[u8], nth: usize, name: &[u8]) -> bool {
             b" is too long: a name has at most 32 characters",
         );
     }
-    if !begins_name(name) || !all_of_name(name) {
+    if !is_name(name) {
         return complain::of_word(
             path,
             nth,

@@ -7,6 +7,7 @@ ghost use Prim.Native.Nat.{_<_};
 use super::complain;
 use super::complain::Got;
 use super::row_line;
+use libc::STDERR_FILENO as ERR;
 use message::id::MethodId;
 use message::id::ServiceId;
 use message::message_type::MessageType;
@@ -14,6 +15,7 @@ use message::read::Expected;
 use payload::table;
 use payload::table::Table;
 use payload::table::TypeRow;
+use text::list;
 use text::slice;
 use text::word;
 use text::word::Word;
@@ -139,22 +141,17 @@ pub fn ends(path: &[u8], nth: usize, line: &[u8], at: usize) -> bool {
 
 // The Message Type of a name; 255 for any other.
 fn type_of(name: &[u8]) -> u8 {
-    if slice::alike(name, b"request") {
-        return MessageType::REQUEST.0;
+    match list::index(
+        b"request;request_no_return;notification;response;error;",
+        name,
+    ) {
+        0 => MessageType::REQUEST.0,
+        1 => MessageType::REQUEST_NO_RETURN.0,
+        2 => MessageType::NOTIFICATION.0,
+        3 => MessageType::RESPONSE.0,
+        4 => MessageType::ERROR.0,
+        _ => 255,
     }
-    if slice::alike(name, b"request_no_return") {
-        return MessageType::REQUEST_NO_RETURN.0;
-    }
-    if slice::alike(name, b"notification") {
-        return MessageType::NOTIFICATION.0;
-    }
-    if slice::alike(name, b"response") {
-        return MessageType::RESPONSE.0;
-    }
-    if slice::alike(name, b"error") {
-        return MessageType::ERROR.0;
-    }
-    255
 }
 
 // Sets the Message Type.
@@ -174,32 +171,12 @@ fn set_type(path: &[u8], nth: usize, value: &[u8], sheet: Sheet) -> Sheet {
     s
 }
 
-// Sets the width of length fields, and whether it is told in the tag.
-fn set_width(path: &[u8], nth: usize, value: &[u8], mark: &[u8], sheet: Sheet) -> Sheet {
+// Sets whether the width is told in the tag.
+fn set_mark(path: &[u8], nth: usize, mark: &[u8], sheet: Sheet) -> Sheet {
     let mut s = sheet;
-    let got = complain::number_to(path, nth, b"width", value, 4);
-    let Got::Is(n) = got else {
-        return s.failed();
-    };
-    match n {
-        1 | 2 | 4 => {}
-        _ => {
-            complain::of_number(
-                path,
-                nth,
-                b"width ",
-                n,
-                b": a length field has 1, 2 or 4 bytes",
-            );
-            return s.failed();
-        }
-    }
-    s.width = (n % 8) as usize;
-    if slice::alike(mark, b"tagged") {
-        return s;
-    }
-    if slice::alike(mark, b"static") {
-        s.fixed = true;
+    let which = list::index(b"tagged;static;", mark);
+    if which < 2 {
+        s.fixed = which == 1;
         return s;
     }
     complain::of_word(
@@ -211,14 +188,49 @@ fn set_width(path: &[u8], nth: usize, value: &[u8], mark: &[u8], sheet: Sheet) -
     s.failed()
 }
 
+// Sets the width of length fields.
+fn set_width(path: &[u8], nth: usize, value: &[u8], sheet: Sheet) -> Sheet {
+    let mut s = sheet;
+    let got = complain::number_to(path, nth, b"width", value, 4);
+    let Got::Is(n) = got else {
+        return s.failed();
+    };
+    match n {
+        1 | 2 | 4 => {
+            s.width = n as usize;
+            s
+        }
+        _ => {
+            complain::of_number(
+                path,
+                nth,
+                b"width ",
+                n,
+                b": a length field has 1, 2 or 4 bytes",
+            );
+            s.failed()
+        }
+    }
+}
+
+// The largest number of a setting.
+fn most_of(which: usize) -> u64 {
+    if which == 2 {
+        return 255;
+    }
+    65535
+}
+
 // Sets one of the three numbers of the expectation.
 fn set_number(path: &[u8], nth: usize, which: usize, value: &[u8], sheet: Sheet) -> Sheet {
     let mut s = sheet;
-    let got = match which {
-        0 => complain::number_to(path, nth, b"service", value, 65535),
-        1 => complain::number_to(path, nth, b"method", value, 65535),
-        _ => complain::number_to(path, nth, b"interface", value, 255),
-    };
+    let got = complain::number_to(
+        path,
+        nth,
+        list::nth(b"service;method;interface;", which),
+        value,
+        most_of(which),
+    );
     let Got::Is(n) = got else {
         return s.failed();
     };
@@ -230,26 +242,6 @@ fn set_number(path: &[u8], nth: usize, which: usize, value: &[u8], sheet: Sheet)
     s
 }
 
-// Which setting a word names; 5 for none.
-fn setting_of(name: &[u8]) -> usize {
-    if slice::alike(name, b"service") {
-        return 0;
-    }
-    if slice::alike(name, b"method") {
-        return 1;
-    }
-    if slice::alike(name, b"interface") {
-        return 2;
-    }
-    if slice::alike(name, b"type") {
-        return 3;
-    }
-    if slice::alike(name, b"width") {
-        return 4;
-    }
-    5
-}
-
 // Sets what a setting's words say.
 fn set(path: &[u8], nth: usize, line: &[u8], at: usize, which: usize, s: Sheet) -> Sheet {
     let v = word::next(line, at);
@@ -259,7 +251,11 @@ fn set(path: &[u8], nth: usize, line: &[u8], at: usize, which: usize, s: Sheet) 
         if !ends(path, nth, line, m.to) {
             return s.failed();
         }
-        return set_width(path, nth, value, slice::between(line, m.from, m.to), s);
+        let with_mark = set_mark(path, nth, slice::between(line, m.from, m.to), s);
+        if !with_mark.ok {
+            return with_mark;
+        }
+        return set_width(path, nth, value, with_mark);
     }
     if !ends(path, nth, line, v.to) {
         return s.failed();
@@ -273,7 +269,7 @@ fn set(path: &[u8], nth: usize, line: &[u8], at: usize, which: usize, s: Sheet) 
 // A line that begins with a word.
 fn setting_line(path: &[u8], nth: usize, line: &[u8], w: Word, s: Sheet) -> Sheet {
     let name = slice::between(line, w.from, w.to);
-    let which = setting_of(name);
+    let which = list::index(b"service;method;interface;type;width;", name);
     if 5 <= which {
         complain::of_word(
             path,
@@ -304,16 +300,6 @@ fn read_line(path: &[u8], nth: usize, line: &[u8], at: usize, s: Sheet) -> Sheet
     }
 }
 
-// Whether a setting has been met.
-fn has(path: &[u8], s: Sheet, which: usize, message: &[u8]) -> bool {
-    if which < 5 {
-        if s.line_of(which) != 0 {
-            return true;
-        }
-    }
-    complain::of_file(path, message)
-}
-
 // Whether a table has all that it needs. The last word is the library's.
 fn is_whole(path: &[u8], s: Sheet) -> bool {
     if s.count == 0 {
@@ -328,13 +314,28 @@ fn is_whole(path: &[u8], s: Sheet) -> bool {
     true
 }
 
+// Says that a setting is missing.
+fn say_missing(path: &[u8], which: usize) -> bool {
+    io::write_all(ERR, path);
+    io::write_all(ERR, b": the setting ");
+    io::write_all(
+        ERR,
+        list::nth(b"service;method;interface;type;width;", which),
+    );
+    io::write_all(ERR, b" is missing\n");
+    false
+}
+
 // Whether all settings have been met.
 fn has_all(path: &[u8], s: Sheet) -> bool {
-    has(path, s, 0, b"the setting service is missing")
-        && has(path, s, 1, b"the setting method is missing")
-        && has(path, s, 2, b"the setting interface is missing")
-        && has(path, s, 3, b"the setting type is missing")
-        && has(path, s, 4, b"the setting width is missing")
+    let mut i: usize = 0;
+    while i < 5 {
+        if s.seen[i] == 0 {
+            return say_missing(path, i);
+        }
+        i += 1;
+    }
+    true
 }
 
 // The lines of a text, up to the first that is wrong.

@@ -6,6 +6,7 @@ pub mod big;
 pub mod decimal;
 pub mod float;
 pub mod input;
+pub mod list;
 pub mod number;
 pub mod quote;
 pub mod say;

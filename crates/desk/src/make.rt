@@ -1,0 +1,175 @@
+// A datagram from values: each row is looked at, so that a refusal names it; the writer then has the last word.
+
+use super::complain;
+use super::kind;
+use super::table_file::Sheet;
+use super::values;
+use super::values::Values;
+use super::words;
+use libc::STDERR_FILENO as ERR;
+use libc::STDOUT_FILENO as OUT;
+use message::header::Header;
+use message::id::ClientId;
+use message::id::MethodId;
+use message::id::ServiceId;
+use message::id::SessionId;
+use message::message_type::MessageType;
+use message::write;
+use payload::row::Row;
+use payload::row::Value;
+use payload::table::TypeRow;
+use text::say;
+use text::slice;
+use wire::text as wire_text;
+
+// Whether a row is present.
+fn is_present(r: Row) -> bool {
+    let v = r.value;
+    match v {
+        Value::Absent => false,
+        _ => true,
+    }
+}
+
+// Whether a run of content is text as a string may have it.
+fn is_text(content: &[u8], place: usize, len: usize) -> bool {
+    if content.len() < place {
+        return false;
+    }
+    if content.len() - place < len {
+        return false;
+    }
+    wire_text::text_fits(content, place, place + len)
+}
+
+// Whether a row that is no string's, or is absent, or has text.
+fn text_fits(r: Row, k: u8, content: &[u8]) -> bool {
+    if k != kind::STRING {
+        return true;
+    }
+    let v = r.value;
+    match v {
+        Value::Bytes { place, len } => is_text(content, place, len),
+        _ => true,
+    }
+}
+
+// The levels that are present behind a row, where those up to `opened` are before it: one more than a present struct's, else the row's own.
+fn opened_by(row: TypeRow, opened: u8, present: bool) -> u8 {
+    if opened < row.level {
+        return opened;
+    }
+    if row.kind == kind::STRUCT {
+        if present {
+            if row.level < 4 {
+                return row.level + 1;
+            }
+        }
+    }
+    row.level
+}
+
+// Which rule a row's value breaks: 0 none, 1 required and absent, 2 present in an absent struct, 3 no text.
+fn broken(row: TypeRow, r: Row, opened: u8, content: &[u8]) -> u8 {
+    let present = is_present(r);
+    if opened < row.level {
+        if present {
+            return 2;
+        }
+        return 0;
+    }
+    if row.required {
+        if !present {
+            return 1;
+        }
+    }
+    if text_fits(r, row.kind, content) {
+        return 0;
+    }
+    3
+}
+
+// Names a row and the rule that its value breaks.
+fn say_broken(path: &[u8], nth: usize, name: &[u8], rule: u8) {
+    io::write_all(ERR, path);
+    say::field(ERR, b": verdict 30 value: row ", nth as u64);
+    io::write_all(ERR, b" ");
+    io::write_all(ERR, name);
+    match rule {
+        1 => {
+            io::write_all(ERR, b" is required and has no value\n");
+        }
+        2 => {
+            io::write_all(
+                ERR,
+                b" has a value, and the struct that it is in is absent\n",
+            );
+        }
+        _ => {
+            io::write_all(ERR, b" has a zero byte, or bytes that are no text\n");
+        }
+    }
+}
+
+// Whether every row's value fits, with a message for the first that doesn't.
+fn all_fit(path: &[u8], v: Values, s: Sheet, all: &[u8], content: &[u8]) -> bool {
+    let mut opened: u8 = 1;
+    let mut i: usize = 0;
+    while i < 64 && i < s.count {
+        let row = s.rows[i];
+        let r = v.rows[i];
+        let rule = broken(row, r, opened, content);
+        if rule != 0 {
+            let name = s.names[i];
+            say_broken(path, i + 1, slice::between(all, name.from, name.to), rule);
+            return false;
+        }
+        opened = opened_by(row, opened, is_present(r));
+        i += 1;
+    }
+    true
+}
+
+// The header: what the table expects, and what the values say.
+fn header_of(v: Values, s: Sheet) -> Header {
+    Header {
+        service: ServiceId(s.service),
+        method: MethodId(s.method),
+        client: ClientId(v.client),
+        session: SessionId(v.session),
+        interface: s.interface,
+        kind: MessageType(s.kind),
+        code: v.code,
+    }
+}
+
+// Writes the message to standard output.
+fn write_out(path: &[u8], v: Values, s: Sheet, content: &[u8]) {
+    let mut out = [0u8; 1416];
+    let rows = v.rows;
+    let w = write::write_by_value(header_of(v, s), rows, 64, s.table(), content, &mut out);
+    let verdict = w.verdict;
+    let number = verdict.number();
+    if number != 0 {
+        io::write_all(ERR, path);
+        io::write_all(ERR, b": ");
+        words::unwritten(number);
+        return;
+    }
+    if !io::write_all(OUT, slice::between(&out, 0, w.len)) {
+        complain::of_file(b"standard output", b"cannot be written");
+    }
+}
+
+// Makes a datagram of a text of values, or says what is wrong and writes nothing. `all` is the table's text.
+pub fn from_text(path: &[u8], lines: &[u8], s: Sheet, all: &[u8]) {
+    let mut content = io::large_buffer();
+    let v = values::read(path, lines, s, all, &mut content);
+    if !v.ok {
+        return;
+    }
+    let part = slice::between(&content, 0, v.used);
+    if all_fit(path, v, s, all, part) {
+        write_out(path, v, s, part);
+    }
+}
