@@ -1,5 +1,6 @@
 // Messages on standard error: the file, the line where there is one, and what is wrong.
 
+use super::phrase;
 use libc::STDERR_FILENO as ERR;
 use text::number;
 use text::number::Number;
@@ -12,85 +13,114 @@ pub enum Got {
     Wrong,
 }
 
+// A name, a colon and a blank.
+pub fn of(path: &[u8]) {
+    io::write_all(ERR, path);
+    say::byte(ERR, b':');
+    say::byte(ERR, b' ');
+}
+
 // A message's start: a file's name, and the number of a line.
 pub fn start(path: &[u8], line: usize) {
     io::write_all(ERR, path);
-    say::field(ERR, b":", line as u64);
-    io::write_all(ERR, b": ");
+    say::byte(ERR, b':');
+    io::print_decimal(ERR, line as u64);
+    say::byte(ERR, b':');
+    say::byte(ERR, b' ');
 }
 
 // A file and what is wrong with it as a whole. Answers false, as all messages do, so that a test can end with one.
-pub fn of_file(path: &[u8], what: &[u8]) -> bool {
-    io::write_all(ERR, path);
-    io::write_all(ERR, b": ");
-    io::write_all(ERR, what);
-    io::write_all(ERR, b"\n");
+pub fn of_file(path: &[u8], what: usize) -> bool {
+    of(path);
+    phrase::line(ERR, what);
     false
 }
 
 // A line and what is wrong with it.
-pub fn of_line(path: &[u8], line: usize, what: &[u8]) -> bool {
+pub fn of_line(path: &[u8], line: usize, what: usize) -> bool {
     start(path, line);
-    io::write_all(ERR, what);
-    io::write_all(ERR, b"\n");
+    phrase::line(ERR, what);
     false
 }
 
 // A line and what is wrong with one of its words.
-pub fn of_word(path: &[u8], line: usize, word: &[u8], what: &[u8]) -> bool {
+pub fn of_word(path: &[u8], line: usize, word: &[u8], what: usize) -> bool {
     start(path, line);
     quote::print(ERR, word);
-    io::write_all(ERR, what);
-    io::write_all(ERR, b"\n");
+    say::byte(ERR, b' ');
+    phrase::line(ERR, what);
     false
 }
 
 // A line, and what is wrong with a number in it.
-pub fn of_number(path: &[u8], line: usize, before: &[u8], n: u64, behind: &[u8]) -> bool {
+pub fn of_number(path: &[u8], line: usize, before: usize, n: u64, behind: usize) -> bool {
     start(path, line);
-    say::field(ERR, before, n);
-    io::write_all(ERR, behind);
-    io::write_all(ERR, b"\n");
+    phrase::item(ERR, before, n);
+    say::byte(ERR, b' ');
+    phrase::line(ERR, behind);
     false
 }
 
-// A line whose word stands for something that a line before has.
-pub fn of_twice(path: &[u8], line: usize, what: &[u8], word: &[u8], other: usize) -> bool {
+// A line, and what is wrong with two numbers in it.
+pub fn of_numbers(
+    path: &[u8],
+    line: usize,
+    before: usize,
+    n: u64,
+    between: usize,
+    m: u64,
+    behind: usize,
+) -> bool {
     start(path, line);
-    io::write_all(ERR, what);
-    quote::print(ERR, word);
-    say::field(ERR, b" stands in line ", other as u64);
-    io::write_all(ERR, b" already\n");
+    phrase::item(ERR, before, n);
+    phrase::field(ERR, between, m);
+    say::byte(ERR, b' ');
+    phrase::line(ERR, behind);
     false
+}
+
+// A line with a word that a line before has.
+pub fn of_twice(path: &[u8], line: usize, word: &[u8], other: usize) -> bool {
+    start(path, line);
+    quote::print(ERR, word);
+    phrase::field(ERR, phrase::IN_LINE, other as u64);
+    say::byte(ERR, b' ');
+    phrase::line(ERR, phrase::ALREADY);
+    false
+}
+
+// The start of a message on what a number stands for.
+fn start_of(path: &[u8], line: usize, what: usize) {
+    start(path, line);
+    phrase::write(ERR, what);
+    say::byte(ERR, b':');
+    say::byte(ERR, b' ');
 }
 
 // A number that is over the most that stands in its place.
-fn of_most(path: &[u8], line: usize, what: &[u8], word: &[u8], most: u64) -> Got {
-    start(path, line);
-    io::write_all(ERR, what);
-    io::write_all(ERR, b": ");
+fn of_most(path: &[u8], line: usize, what: usize, word: &[u8], most: u64) -> Got {
+    start_of(path, line, what);
     quote::print(ERR, word);
-    say::field(ERR, b" is over ", most);
-    io::write_all(ERR, b"\n");
+    phrase::field(ERR, phrase::IS_OVER, most);
+    say::byte(ERR, b'\n');
     Got::Wrong
 }
 
 // A word that is missing, or no number.
-fn of_none(path: &[u8], line: usize, what: &[u8], word: &[u8]) -> Got {
-    start(path, line);
-    io::write_all(ERR, what);
+fn of_none(path: &[u8], line: usize, what: usize, word: &[u8]) -> Got {
+    start_of(path, line, what);
     if word.len() == 0 {
-        io::write_all(ERR, b": a number is missing\n");
-    } else {
-        io::write_all(ERR, b": ");
-        quote::print(ERR, word);
-        io::write_all(ERR, b" is no number\n");
+        phrase::line(ERR, phrase::NUMBER_MISSING);
+        return Got::Wrong;
     }
+    quote::print(ERR, word);
+    say::byte(ERR, b' ');
+    phrase::line(ERR, phrase::IS_NO_NUMBER);
     Got::Wrong
 }
 
 // A word as a number up to a most one.
-pub fn number_to(path: &[u8], line: usize, what: &[u8], word: &[u8], most: u64) -> Got {
+pub fn number_to(path: &[u8], line: usize, what: usize, word: &[u8], most: u64) -> Got {
     match number::parse(word) {
         Number::Is(n) => {
             if n <= most {

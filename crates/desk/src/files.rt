@@ -4,6 +4,7 @@ ghost use Rattle.text.specs.Input.{Taken};
 ghost use Rattle.io.specs.Counts.{Counts};
 use super::complain;
 use super::hex;
+use super::phrase;
 use libc::STDIN_FILENO;
 use text::input;
 use text::input::Input;
@@ -54,10 +55,7 @@ fn read_digits(path: &[u8], buf: &mut [u8]) -> Input
     match read_file(path, &mut all) {
         Input::Bytes(n) => hex::bytes_of(path, slice::between(&all, 0, n), buf),
         Input::Long => {
-            complain::of_file(
-                path,
-                b"longer than 262143 bytes, the most that is read as hexadecimal digits",
-            );
+            complain::of_file(path, phrase::LONG_DIGITS);
             Input::Failed
         }
         Input::Failed => Input::Failed,

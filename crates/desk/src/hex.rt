@@ -2,6 +2,7 @@
 
 ghost use Rattle.text.specs.Input.{Taken};
 use super::complain;
+use super::phrase;
 use text::input::Input;
 use text::number;
 
@@ -15,10 +16,7 @@ fn is_space(b: u8) -> bool {
 
 // Says that something is no digit and no white space.
 fn say_odd(path: &[u8]) {
-    complain::of_file(
-        path,
-        b"something other than hexadecimal digits and white space",
-    );
+    complain::of_file(path, phrase::NO_DIGITS);
 }
 
 // The byte of two digits.
@@ -56,7 +54,7 @@ pub fn bytes_of(path: &[u8], s: &[u8], out: &mut [u8]) -> Input
         }
     }
     if high != 16 {
-        complain::of_file(path, b"an odd number of hexadecimal digits");
+        complain::of_file(path, phrase::ODD_DIGITS);
         return Input::Failed;
     }
     if out.len() <= n {

@@ -9,6 +9,7 @@ mod files;
 mod hex;
 mod kind;
 mod make;
+mod phrase;
 mod row_line;
 mod scalar;
 mod show;
@@ -36,10 +37,7 @@ fn show_file(path: &[u8], many: bool, is_hex: bool, s: Sheet, all: &[u8], tally:
     match files::read_datagram(path, is_hex, &mut buf) {
         Input::Bytes(n) => show::datagram(path, many, slice::between(&buf, 0, n), s, all, tally),
         Input::Long => {
-            complain::of_file(
-                path,
-                b"longer than 65535 bytes, the most that a datagram has",
-            );
+            complain::of_file(path, phrase::LONG_DATAGRAM);
             tally.without()
         }
         Input::Failed => tally.without(),
@@ -80,10 +78,7 @@ fn make_file(path: &[u8], s: Sheet, all: &[u8]) {
     match files::read_file(path, &mut buf) {
         Input::Bytes(n) => make::from_text(path, slice::between(&buf, 0, n), s, all),
         Input::Long => {
-            complain::of_file(
-                path,
-                b"longer than 65535 bytes, the most that a file of values has",
-            );
+            complain::of_file(path, phrase::LONG_VALUES);
         }
         Input::Failed => {}
     }
@@ -119,10 +114,7 @@ fn run_file(command: usize, path: &[u8]) {
     match files::read_file(path, &mut buf) {
         Input::Bytes(n) => run(command, path, slice::between(&buf, 0, n)),
         Input::Long => {
-            complain::of_file(
-                path,
-                b"longer than 65535 bytes, the most that a table file has",
-            );
+            complain::of_file(path, phrase::LONG_TABLE);
         }
         Input::Failed => {}
     }
@@ -130,10 +122,7 @@ fn run_file(command: usize, path: &[u8]) {
 
 // Says how the program is called.
 fn usage() {
-    io::write_all(
-        STDERR_FILENO,
-        b"usage: desk show TABLE [FILE...], desk show-hex TABLE [FILE...], desk make TABLE [VALUES]\n",
-    );
+    phrase::line(STDERR_FILENO, phrase::USAGE);
 }
 
 fn main() {

@@ -2,6 +2,7 @@
 
 use super::complain;
 use super::kind;
+use super::phrase;
 use super::table_file::Sheet;
 use super::values;
 use super::values::Values;
@@ -69,46 +70,37 @@ fn opened_by(row: TypeRow, opened: u8, present: bool) -> u8 {
     row.level
 }
 
-// Which rule a row's value breaks: 0 none, 1 required and absent, 2 present in an absent struct, 3 no text.
-fn broken(row: TypeRow, r: Row, opened: u8, content: &[u8]) -> u8 {
+// Which rule a row's value breaks: 0 required and absent, 1 present in an absent struct, 2 no text; 3 none.
+fn broken(row: TypeRow, r: Row, opened: u8, content: &[u8]) -> usize {
     let present = is_present(r);
     if opened < row.level {
         if present {
-            return 2;
+            return 1;
         }
-        return 0;
+        return 3;
     }
     if row.required {
         if !present {
-            return 1;
+            return 0;
         }
     }
     if text_fits(r, row.kind, content) {
-        return 0;
+        return 3;
     }
-    3
+    2
 }
 
 // Names a row and the rule that its value breaks.
-fn say_broken(path: &[u8], nth: usize, name: &[u8], rule: u8) {
-    io::write_all(ERR, path);
-    say::field(ERR, b": verdict 30 value: row ", nth as u64);
-    io::write_all(ERR, b" ");
+fn say_broken(path: &[u8], nth: usize, name: &[u8], rule: usize) {
+    complain::of(path);
+    phrase::item(ERR, phrase::VERDICT, 30);
+    phrase::word(ERR, phrase::VALUE);
+    say::byte(ERR, b':');
+    phrase::field(ERR, phrase::ROW, nth as u64);
+    say::byte(ERR, b' ');
     io::write_all(ERR, name);
-    match rule {
-        1 => {
-            io::write_all(ERR, b" is required and has no value\n");
-        }
-        2 => {
-            io::write_all(
-                ERR,
-                b" has a value, and the struct that it is in is absent\n",
-            );
-        }
-        _ => {
-            io::write_all(ERR, b" has a zero byte, or bytes that are no text\n");
-        }
-    }
+    say::byte(ERR, b' ');
+    phrase::line(ERR, phrase::IS_REQUIRED + rule % 3);
 }
 
 // Whether every row's value fits, with a message for the first that doesn't.
@@ -119,7 +111,7 @@ fn all_fit(path: &[u8], v: Values, s: Sheet, all: &[u8], content: &[u8]) -> bool
         let row = s.rows[i];
         let r = v.rows[i];
         let rule = broken(row, r, opened, content);
-        if rule != 0 {
+        if rule != 3 {
             let name = s.names[i];
             say_broken(path, i + 1, slice::between(all, name.from, name.to), rule);
             return false;
@@ -151,13 +143,12 @@ fn write_out(path: &[u8], v: Values, s: Sheet, content: &[u8]) {
     let verdict = w.verdict;
     let number = verdict.number();
     if number != 0 {
-        io::write_all(ERR, path);
-        io::write_all(ERR, b": ");
+        complain::of(path);
         words::unwritten(number);
         return;
     }
     if !io::write_all(OUT, slice::between(&out, 0, w.len)) {
-        complain::of_file(b"standard output", b"cannot be written");
+        phrase::line(ERR, phrase::UNWRITTEN);
     }
 }
 

@@ -4,13 +4,12 @@ ghost use Prim.Native.Nat.{_≤_};
 use super::complain;
 use super::complain::Got;
 use super::kind;
+use super::phrase;
 use super::table_file;
 use super::table_file::Name;
 use super::table_file::Sheet;
-use libc::STDERR_FILENO as ERR;
 use payload::table::TypeRow;
 use text::list;
-use text::say;
 use text::slice;
 use text::word;
 use text::word::Word;
@@ -49,12 +48,7 @@ fn elem_at(path: &[u8], nth: usize, line: &[u8], at: usize) -> Kinds {
     let name = slice::between(line, w.from, w.to);
     let k = kind::of_name(name);
     if k == 0 || kind::FLOAT64 < k {
-        complain::of_word(
-            path,
-            nth,
-            name,
-            b" is no element kind: behind array stands one of boolean to float64",
-        );
+        complain::of_word(path, nth, name, phrase::NO_ELEM);
         return no_kinds();
     }
     Kinds {
@@ -71,12 +65,7 @@ fn kinds_at(path: &[u8], nth: usize, line: &[u8], at: usize) -> Kinds {
     let name = slice::between(line, w.from, w.to);
     let k = kind::of_name(name);
     if k == 0 {
-        complain::of_word(
-            path,
-            nth,
-            name,
-            b" is no kind: boolean, uint8 to uint64, sint8 to sint64, float32, float64, string, array or struct",
-        );
+        complain::of_word(path, nth, name, phrase::NO_KIND);
         return no_kinds();
     }
     if k == kind::ARRAY {
@@ -97,9 +86,9 @@ fn mark_of(path: &[u8], nth: usize, mark: &[u8]) -> usize {
         return n;
     }
     if kind::of_name(mark) != 0 {
-        complain::of_word(path, nth, mark, b": only an array has an element kind");
+        complain::of_word(path, nth, mark, phrase::ONLY_ARRAY);
     } else {
-        complain::of_word(path, nth, mark, b" is neither required nor optional");
+        complain::of_word(path, nth, mark, phrase::NO_REQUIRED);
     }
     2
 }
@@ -144,35 +133,16 @@ fn is_taken(name: &[u8]) -> bool {
 // Whether a word can be a name.
 fn name_fits(path: &[u8], nth: usize, name: &[u8]) -> bool {
     if name.len() == 0 {
-        return complain::of_line(
-            path,
-            nth,
-            b"the row's name is missing: LEVEL DATA-ID KIND required (or optional) NAME",
-        );
+        return complain::of_line(path, nth, phrase::NAME_MISSING);
     }
     if NAME_MOST < name.len() {
-        return complain::of_word(
-            path,
-            nth,
-            name,
-            b" is too long: a name has at most 32 characters",
-        );
+        return complain::of_word(path, nth, name, phrase::LONG_NAME);
     }
     if !is_name(name) {
-        return complain::of_word(
-            path,
-            nth,
-            name,
-            b" is no name: it begins with a letter and has letters, digits, _ - and . only",
-        );
+        return complain::of_word(path, nth, name, phrase::NO_NAME);
     }
     if is_taken(name) {
-        return complain::of_word(
-            path,
-            nth,
-            name,
-            b" is a word that lines of values use, and no name",
-        );
+        return complain::of_word(path, nth, name, phrase::TAKEN_NAME);
     }
     true
 }
@@ -225,7 +195,13 @@ fn line_of(path: &[u8], nth: usize, line: &[u8], at: usize, level: u8, ident: u1
 // All words of a row's line.
 fn words_of(path: &[u8], nth: usize, line: &[u8], at: usize) -> Line {
     let l = word::next(line, at);
-    let level = complain::number_to(path, nth, b"level", slice::between(line, l.from, l.to), 4);
+    let level = complain::number_to(
+        path,
+        nth,
+        phrase::LEVEL,
+        slice::between(line, l.from, l.to),
+        4,
+    );
     let Got::Is(n) = level else {
         return no_line();
     };
@@ -233,7 +209,7 @@ fn words_of(path: &[u8], nth: usize, line: &[u8], at: usize) -> Line {
     let ident = complain::number_to(
         path,
         nth,
-        b"Data ID",
+        phrase::DATA_ID,
         slice::between(line, i.from, i.to),
         4095,
     );
@@ -245,14 +221,15 @@ fn words_of(path: &[u8], nth: usize, line: &[u8], at: usize) -> Line {
 
 // Two levels that don't follow each other.
 fn of_levels(path: &[u8], nth: usize, level: u8, before: u8) -> bool {
-    complain::start(path, nth);
-    say::field(ERR, b"level ", level as u64);
-    say::field(ERR, b" after level ", before as u64);
-    io::write_all(
-        ERR,
-        b": a level is at most the one before it, or one more than a struct's\n",
-    );
-    false
+    complain::of_numbers(
+        path,
+        nth,
+        phrase::LEVEL,
+        level as u64,
+        phrase::AFTER_LEVEL,
+        before as u64,
+        phrase::LEVEL_RULE,
+    )
 }
 
 // Whether a first row's level is right.
@@ -260,19 +237,13 @@ fn first_level_fits(path: &[u8], nth: usize, level: u8) -> bool {
     if level == 1 {
         return true;
     }
-    complain::of_number(
-        path,
-        nth,
-        b"level ",
-        level as u64,
-        b" of the first row: it has to be 1",
-    )
+    complain::of_number(path, nth, phrase::LEVEL, level as u64, phrase::FIRST_LEVEL)
 }
 
 // Whether a row's level may stand behind the rows before it.
 fn level_fits(path: &[u8], nth: usize, level: u8, s: Sheet) -> bool {
     if level == 0 {
-        return complain::of_line(path, nth, b"level 0: a level is 1 to 4");
+        return complain::of_line(path, nth, phrase::LEVEL_0);
     }
     let count = s.count;
     if count == 0 {
@@ -334,14 +305,15 @@ fn ident_fits(path: &[u8], nth: usize, row: TypeRow, s: Sheet) -> bool {
         return true;
     }
     let other = s.name(twin - 1);
-    complain::start(path, nth);
-    say::field(ERR, b"Data ID ", row.ident as u64);
-    say::field(ERR, b" stands in line ", other.line as u64);
-    io::write_all(
-        ERR,
-        b" already: it differs among the members of one struct, and among the rows of level 1\n",
-    );
-    false
+    complain::of_numbers(
+        path,
+        nth,
+        phrase::DATA_ID,
+        row.ident as u64,
+        phrase::IN_LINE,
+        other.line as u64,
+        phrase::ID_RULE,
+    )
 }
 
 // Whether a row's name is no other's.
@@ -352,7 +324,7 @@ fn name_is_free(path: &[u8], nth: usize, line: &[u8], name: Word, s: Sheet) -> b
         return true;
     }
     let n = s.name(other - 1);
-    complain::of_twice(path, nth, b"the name ", word, n.line)
+    complain::of_twice(path, nth, word, n.line)
 }
 
 // Whether a row may stand behind the rows before it.
@@ -361,11 +333,7 @@ fn row_fits(path: &[u8], nth: usize, row: TypeRow, s: Sheet) -> bool {
         return false;
     }
     if row.kind == kind::STRUCT && 3 < row.level {
-        return complain::of_line(
-            path,
-            nth,
-            b"a struct at level 4: a struct stands at level 1 to 3",
-        );
+        return complain::of_line(path, nth, phrase::STRUCT_LEVEL);
     }
     ident_fits(path, nth, row, s)
 }
@@ -390,7 +358,7 @@ fn with_row(sheet: Sheet, row: TypeRow, name: Name) -> Sheet {
 // Reads a row's line, which begins at a place of the text up to its end.
 pub fn read(path: &[u8], nth: usize, line: &[u8], at: usize, s: Sheet) -> Sheet {
     if 64 <= s.count {
-        complain::of_line(path, nth, b"a row too many: a table has 1 to 64");
+        complain::of_line(path, nth, phrase::MANY_ROWS);
         return s.failed();
     }
     let l = words_of(path, nth, line, at);

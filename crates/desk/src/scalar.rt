@@ -3,16 +3,18 @@
 use super::complain;
 use super::complain::Got;
 use super::kind;
+use super::phrase;
 use text::decimal;
 use text::decimal::Parsed;
 use text::float;
 use text::float::Bits;
+use text::list;
 use text::number;
 use text::number::Number;
 use text::slice;
 
 // A word that is no value of its row.
-fn no_value(path: &[u8], nth: usize, word: &[u8], what: &[u8]) -> Got {
+fn no_value(path: &[u8], nth: usize, word: &[u8], what: usize) -> Got {
     complain::of_word(path, nth, word, what);
     Got::Wrong
 }
@@ -20,25 +22,18 @@ fn no_value(path: &[u8], nth: usize, word: &[u8], what: &[u8]) -> Got {
 // A boolean or an unsigned number.
 fn unsigned(path: &[u8], nth: usize, word: &[u8], k: u8) -> Got {
     if k == kind::BOOLEAN {
-        if slice::alike(word, b"true") {
-            return Got::Is(1);
-        }
-        if slice::alike(word, b"false") {
-            return Got::Is(0);
+        let n = list::index(b"false;true;", word);
+        if n < 2 {
+            return Got::Is(n as u64);
         }
     }
-    complain::number_to(path, nth, b"value", word, kind::bound(k))
+    complain::number_to(path, nth, phrase::VALUE, word, kind::bound(k))
 }
 
 // The two's complement of so far below 0, for a kind whose lowest number is as far below as `half`.
 fn below_zero(path: &[u8], nth: usize, word: &[u8], far: u64, half: u64) -> Got {
     if half < far {
-        return no_value(
-            path,
-            nth,
-            word,
-            b" is below the least that the row's kind has",
-        );
+        return no_value(path, nth, word, phrase::IS_BELOW);
     }
     if far == 0 {
         return Got::Is(0);
@@ -59,17 +54,12 @@ fn signed(path: &[u8], nth: usize, word: &[u8], k: u8) -> Got {
         return Got::Wrong;
     }
     if slice::byte_at(word, 0) != b'-' {
-        return complain::number_to(path, nth, b"value", word, half - 1);
+        return complain::number_to(path, nth, phrase::VALUE, word, half - 1);
     }
     match number::parse(slice::between(word, 1, word.len())) {
         Number::Is(far) => below_zero(path, nth, word, far, half),
-        Number::Large => no_value(
-            path,
-            nth,
-            word,
-            b" is below the least that the row's kind has",
-        ),
-        Number::Not => no_value(path, nth, word, b" is no number"),
+        Number::Large => no_value(path, nth, word, phrase::IS_BELOW),
+        Number::Not => no_value(path, nth, word, phrase::IS_NO_NUMBER),
     }
 }
 
@@ -97,40 +87,33 @@ fn quiet_nan(wide: bool) -> u64 {
     2143289344
 }
 
-// A float without its sign, in words or as a decimal.
-fn magnitude(path: &[u8], nth: usize, word: &[u8], wide: bool) -> Got {
-    if slice::alike(word, b"inf") {
-        return Got::Is(infinity(wide));
-    }
-    if slice::alike(word, b"nan") {
-        return Got::Is(quiet_nan(wide));
-    }
+// The bits of a decimal.
+fn decimal_bits(path: &[u8], nth: usize, word: &[u8], wide: bool) -> Got {
     match decimal::parse(word) {
         Parsed::Is(d) => match float::bits_of(d, wide) {
             Bits::Are(b) => Got::Is(b),
-            Bits::Large => no_value(path, nth, word, b" is too large for the row's kind"),
+            Bits::Large => no_value(path, nth, word, phrase::TOO_LARGE),
         },
-        Parsed::Far => no_value(
-            path,
-            nth,
-            word,
-            b" has more than 18 digits, or an exponent that no float has",
-        ),
-        Parsed::Not => no_value(
-            path,
-            nth,
-            word,
-            b" is no decimal, no bits behind 0x, and none of inf and nan",
-        ),
+        Parsed::Far => no_value(path, nth, word, phrase::FAR),
+        Parsed::Not => no_value(path, nth, word, phrase::NO_DECIMAL),
+    }
+}
+
+// A float without its sign, in words or as a decimal.
+fn magnitude(path: &[u8], nth: usize, word: &[u8], wide: bool) -> Got {
+    match list::index(b"inf;nan;", word) {
+        0 => Got::Is(infinity(wide)),
+        1 => Got::Is(quiet_nan(wide)),
+        _ => decimal_bits(path, nth, word, wide),
     }
 }
 
 // A float's bits, in hexadecimal.
 fn float_bits(path: &[u8], nth: usize, word: &[u8], wide: bool) -> Got {
     if wide {
-        return complain::number_to(path, nth, b"float bits", word, 18446744073709551615);
+        return complain::number_to(path, nth, phrase::FLOAT_BITS, word, 18446744073709551615);
     }
-    complain::number_to(path, nth, b"float bits", word, 4294967295)
+    complain::number_to(path, nth, phrase::FLOAT_BITS, word, 4294967295)
 }
 
 // A float: bits behind 0x, also behind a value and a colon; else a decimal, inf or nan, with a sign or without.
@@ -154,7 +137,7 @@ fn float_of(path: &[u8], nth: usize, word: &[u8], wide: bool) -> Got {
 // A word as a value of a kind from 1 to 11.
 pub fn parse(path: &[u8], nth: usize, word: &[u8], k: u8) -> Got {
     if word.len() == 0 {
-        complain::of_line(path, nth, b"the value is missing");
+        complain::of_line(path, nth, phrase::VALUE_MISSING);
         return Got::Wrong;
     }
     if k < kind::SINT8 {

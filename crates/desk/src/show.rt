@@ -1,5 +1,6 @@
 // A datagram, shown: the verdict's line, the header's, and one for each row with its name.
 
+use super::phrase;
 use super::table_file::Sheet;
 use super::tally::Tally;
 use super::value_out;
@@ -13,15 +14,17 @@ use payload::read::Reading;
 use payload::row::Row;
 use text::say;
 use text::slice;
+use wire::verdict::ReturnCode;
 
 // A row's line: its number from 1 on, its Data ID, its name, its value.
 fn row_line(nth: u64, ident: u16, name: &[u8], r: Row, payload: &[u8], elem: u8) -> bool {
-    io::print_decimal(OUT, nth)
-        && say::field(OUT, b" ", ident as u64)
-        && io::write_all(OUT, b" ")
-        && io::write_all(OUT, name)
-        && value_out::shown(r, payload, elem)
-        && io::write_all(OUT, b"\n")
+    io::print_decimal(OUT, nth);
+    say::byte(OUT, b' ');
+    io::print_decimal(OUT, ident as u64);
+    say::byte(OUT, b' ');
+    io::write_all(OUT, name);
+    value_out::shown(r, payload, elem);
+    say::byte(OUT, b'\n')
 }
 
 // A line for each row of the table, whatever the verdict. The names stand in the table's text.
@@ -45,39 +48,55 @@ fn rows(r: Reading, s: Sheet, all: &[u8], payload: &[u8]) -> bool {
     true
 }
 
+// A verdict's return code.
+fn code(c: ReturnCode) -> bool {
+    match c {
+        ReturnCode::Code(x) => phrase::field(OUT, phrase::CODE, x as u64),
+        ReturnCode::None => {
+            phrase::word(OUT, phrase::CODE);
+            phrase::word(OUT, phrase::NONE)
+        }
+    }
+}
+
 // The first line: verdict, return code, place and count of skipped members, and the verdict in words.
 fn first_line(r: Reading) -> bool {
     let v = r.verdict;
-    say::field(OUT, b"verdict ", v.number() as u64)
-        && say::code(OUT, v.return_code())
-        && say::field(OUT, b" place ", r.place as u64)
-        && say::field(OUT, b" skipped ", r.skipped as u64)
-        && words::explained(v.number(), r.place)
-        && io::write_all(OUT, b"\n")
+    phrase::item(OUT, phrase::VERDICT, v.number() as u64);
+    code(v.return_code());
+    phrase::field(OUT, phrase::PLACE, r.place as u64);
+    phrase::field(OUT, phrase::SKIPPED, r.skipped as u64);
+    words::explained(v.number(), r.place);
+    say::byte(OUT, b'\n')
 }
 
 // The header's line: what was found, and how many bytes follow the message.
 fn head_line(h: Head) -> bool {
-    say::field(OUT, b"client ", h.client.0 as u64)
-        && say::field(OUT, b" session ", h.session.0 as u64)
-        && say::field(OUT, b" code ", h.found_code as u64)
-        && say::field(OUT, b" after ", h.rest.len as u64)
-        && io::write_all(OUT, b"\n")
+    phrase::item(OUT, phrase::CLIENT, h.client.0 as u64);
+    phrase::field(OUT, phrase::SESSION, h.session.0 as u64);
+    phrase::field(OUT, phrase::CODE, h.found_code as u64);
+    phrase::field(OUT, phrase::AFTER, h.rest.len as u64);
+    say::byte(OUT, b'\n')
 }
 
 // An answer.
 fn answer(m: MessageReading, d: &[u8], s: Sheet, all: &[u8]) -> bool {
     let r = m.reading;
     let h = m.head;
-    first_line(r) && head_line(h) && rows(r, s, all, part::payload_part(d, h))
+    first_line(r);
+    head_line(h);
+    rows(r, s, all, part::payload_part(d, h))
 }
 
 // The line that says which datagram follows, where there are several.
-fn title(path: &[u8], many: bool) -> bool {
+fn title(path: &[u8], many: bool) {
     if many {
-        return io::write_all(OUT, b"== ") && io::write_all(OUT, path) && io::write_all(OUT, b"\n");
+        say::byte(OUT, b'=');
+        say::byte(OUT, b'=');
+        say::byte(OUT, b' ');
+        io::write_all(OUT, path);
+        say::byte(OUT, b'\n');
     }
-    true
 }
 
 // Shows a datagram, and counts its verdict.
@@ -85,7 +104,8 @@ pub fn datagram(path: &[u8], many: bool, d: &[u8], s: Sheet, all: &[u8], tally: 
     let m = read::read_by_value(d, s.expected(), s.table(), 64);
     let r = m.reading;
     let v = r.verdict;
-    if title(path, many) && answer(m, d, s, all) {
+    title(path, many);
+    if answer(m, d, s, all) {
         return tally.with(v.number());
     }
     tally.stopped()

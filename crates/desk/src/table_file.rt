@@ -6,6 +6,7 @@
 ghost use Prim.Native.Nat.{_<_};
 use super::complain;
 use super::complain::Got;
+use super::phrase;
 use super::row_line;
 use libc::STDERR_FILENO as ERR;
 use message::id::MethodId;
@@ -16,6 +17,7 @@ use payload::table;
 use payload::table::Table;
 use payload::table::TypeRow;
 use text::list;
+use text::say;
 use text::slice;
 use text::word;
 use text::word::Word;
@@ -136,7 +138,7 @@ pub fn ends(path: &[u8], nth: usize, line: &[u8], at: usize) -> bool {
     if more.len() == 0 {
         return true;
     }
-    complain::of_word(path, nth, more, b" is a word too many")
+    complain::of_word(path, nth, more, phrase::TOO_MANY)
 }
 
 // The Message Type of a name; 255 for any other.
@@ -159,12 +161,7 @@ fn set_type(path: &[u8], nth: usize, value: &[u8], sheet: Sheet) -> Sheet {
     let mut s = sheet;
     let kind = type_of(value);
     if kind == 255 {
-        complain::of_word(
-            path,
-            nth,
-            value,
-            b" is none of request, request_no_return, notification, response, error",
-        );
+        complain::of_word(path, nth, value, phrase::NO_TYPE);
         return s.failed();
     }
     s.kind = kind;
@@ -179,19 +176,14 @@ fn set_mark(path: &[u8], nth: usize, mark: &[u8], sheet: Sheet) -> Sheet {
         s.fixed = which == 1;
         return s;
     }
-    complain::of_word(
-        path,
-        nth,
-        mark,
-        b" is neither tagged nor static, one of which stands behind the width",
-    );
+    complain::of_word(path, nth, mark, phrase::NO_MARK);
     s.failed()
 }
 
 // Sets the width of length fields.
 fn set_width(path: &[u8], nth: usize, value: &[u8], sheet: Sheet) -> Sheet {
     let mut s = sheet;
-    let got = complain::number_to(path, nth, b"width", value, 4);
+    let got = complain::number_to(path, nth, phrase::WIDTH, value, 4);
     let Got::Is(n) = got else {
         return s.failed();
     };
@@ -201,13 +193,7 @@ fn set_width(path: &[u8], nth: usize, value: &[u8], sheet: Sheet) -> Sheet {
             s
         }
         _ => {
-            complain::of_number(
-                path,
-                nth,
-                b"width ",
-                n,
-                b": a length field has 1, 2 or 4 bytes",
-            );
+            complain::of_number(path, nth, phrase::WIDTH, n, phrase::NO_WIDTH);
             s.failed()
         }
     }
@@ -227,7 +213,7 @@ fn set_number(path: &[u8], nth: usize, which: usize, value: &[u8], sheet: Sheet)
     let got = complain::number_to(
         path,
         nth,
-        list::nth(b"service;method;interface;", which),
+        phrase::SERVICE + which % 3,
         value,
         most_of(which),
     );
@@ -271,17 +257,12 @@ fn setting_line(path: &[u8], nth: usize, line: &[u8], w: Word, s: Sheet) -> Shee
     let name = slice::between(line, w.from, w.to);
     let which = list::index(b"service;method;interface;type;width;", name);
     if 5 <= which {
-        complain::of_word(
-            path,
-            nth,
-            name,
-            b" is no setting (service, method, interface, type, width), and a row begins with its level",
-        );
+        complain::of_word(path, nth, name, phrase::NO_SETTING);
         return s.failed();
     }
     let before = s.line_of(which);
     if before != 0 {
-        complain::of_twice(path, nth, b"", name, before);
+        complain::of_twice(path, nth, name, before);
         return s.failed();
     }
     set(path, nth, line, w.to, which, s.met(which, nth))
@@ -303,26 +284,20 @@ fn read_line(path: &[u8], nth: usize, line: &[u8], at: usize, s: Sheet) -> Sheet
 // Whether a table has all that it needs. The last word is the library's.
 fn is_whole(path: &[u8], s: Sheet) -> bool {
     if s.count == 0 {
-        return complain::of_file(path, b"the table has no row, and it needs 1 to 64");
+        return complain::of_file(path, phrase::NO_ROWS);
     }
     if !table::table_fits(s.table()) {
-        return complain::of_file(
-            path,
-            b"the table breaks a rule that no line was found to break",
-        );
+        return complain::of_file(path, phrase::UNFIT);
     }
     true
 }
 
 // Says that a setting is missing.
 fn say_missing(path: &[u8], which: usize) -> bool {
-    io::write_all(ERR, path);
-    io::write_all(ERR, b": the setting ");
-    io::write_all(
-        ERR,
-        list::nth(b"service;method;interface;type;width;", which),
-    );
-    io::write_all(ERR, b" is missing\n");
+    complain::of(path);
+    phrase::write(ERR, phrase::SETTING_MISSING);
+    say::byte(ERR, b' ');
+    phrase::line(ERR, phrase::SERVICE + which % 5);
     false
 }
 

@@ -1,5 +1,6 @@
 // How many datagrams got which verdict.
 
+use super::phrase;
 use super::words;
 use libc::STDERR_FILENO as ERR;
 use libc::STDOUT_FILENO as OUT;
@@ -48,36 +49,25 @@ impl Tally {
     // What is shown can't be written.
     pub fn stopped(mut self) -> Tally {
         self.is_stopped = true;
-        io::write_all(ERR, b"cannot write standard output\n");
+        phrase::line(ERR, phrase::UNWRITTEN);
         self
     }
 
-    // How many there are of a verdict.
-    fn part(self, i: usize, lead: &[u8]) -> bool {
-        if 64 <= i {
-            return true;
-        }
-        let n = self.counts[i];
-        say::field(OUT, lead, n)
-            && io::write_all(OUT, b" ")
-            && words::word(OUT, (i % 64) as u8)
-            && say::field(OUT, b" (", i as u64)
-            && io::write_all(OUT, b")")
-    }
-
-    // The same, of a verdict that a datagram got; answers whether the next is still the first.
-    fn part_if(self, i: usize, is_first: bool) -> bool {
+    // How many there are of a verdict, if there are any, behind a colon or a comma; answers whether the next is still the first.
+    fn part(self, i: usize, is_first: bool) -> bool {
         if 64 <= i {
             return is_first;
         }
-        if self.counts[i] == 0 {
+        let n = self.counts[i];
+        if n == 0 {
             return is_first;
         }
         if is_first {
-            self.part(i, b": ");
+            say::byte(OUT, b':');
         } else {
-            self.part(i, b", ");
+            say::byte(OUT, b',');
         }
+        say_count(n, i as u8);
         false
     }
 
@@ -86,23 +76,41 @@ impl Tally {
         let mut is_first = true;
         let mut i: usize = 0;
         while i < 64 {
-            is_first = self.part_if(i, is_first);
+            is_first = self.part(i, is_first);
             i += 1;
         }
     }
 
     // The last line.
     pub fn print(self) {
-        say::field(OUT, b"", self.shown);
+        io::print_decimal(OUT, self.shown);
         if self.shown == 1 {
-            io::write_all(OUT, b" datagram");
+            phrase::word(OUT, phrase::DATAGRAM);
         } else {
-            io::write_all(OUT, b" datagrams");
+            phrase::word(OUT, phrase::DATAGRAMS);
         }
         self.parts();
         if 0 < self.unread {
-            say::field(OUT, b"; not read: ", self.unread);
+            say_unread(self.unread);
         }
-        io::write_all(OUT, b"\n");
+        say::byte(OUT, b'\n');
     }
+}
+
+// How many files could not be read.
+fn say_unread(n: u64) {
+    say::byte(OUT, b';');
+    phrase::field(OUT, phrase::NOT_READ, n);
+}
+
+// A count, and the verdict's word and number.
+fn say_count(n: u64, verdict: u8) {
+    say::byte(OUT, b' ');
+    io::print_decimal(OUT, n);
+    say::byte(OUT, b' ');
+    words::word(OUT, verdict);
+    say::byte(OUT, b' ');
+    say::byte(OUT, b'(');
+    io::print_decimal(OUT, verdict as u64);
+    say::byte(OUT, b')');
 }

@@ -1,7 +1,9 @@
-// What a row holds, printed: like showw's, and behind a run of bytes the text or the elements. Each function answers whether all was written.
+// What a row holds, printed: like showw's, and behind a run of bytes the text or the elements. Each function answers whether its last part was
+// written.
 
 ghost use Prim.Native.Nat.{_≤_};
 use super::kind;
+use super::phrase;
 use libc::STDOUT_FILENO as OUT;
 use message::part;
 use message::part::Part;
@@ -16,7 +18,7 @@ use wire::number;
 // The value of a float by its bits without the sign, of which those of infinity are given.
 fn finite(magnitude: u64, infinity: u64, wide: bool) -> bool {
     if magnitude == infinity {
-        return io::write_all(OUT, b"inf");
+        return phrase::write(OUT, phrase::INF);
     }
     decimal::print(OUT, float::decimal_of(magnitude, wide))
 }
@@ -25,14 +27,15 @@ fn finite(magnitude: u64, infinity: u64, wide: bool) -> bool {
 fn signed_float(bits: u64, sign: u64, infinity: u64, wide: bool) -> bool {
     if bits < sign {
         if infinity < bits {
-            return io::write_all(OUT, b"nan");
+            return phrase::write(OUT, phrase::NAN);
         }
         return finite(bits, infinity, wide);
     }
     if infinity < bits - sign {
-        return io::write_all(OUT, b"nan");
+        return phrase::write(OUT, phrase::NAN);
     }
-    io::write_all(OUT, b"-") && finite(bits - sign, infinity, wide)
+    say::byte(OUT, b'-');
+    finite(bits - sign, infinity, wide)
 }
 
 // A float's value.
@@ -43,20 +46,34 @@ fn float_value(bits: u64, wide: bool) -> bool {
     signed_float(bits % 4294967296, 2147483648, 2139095040, false)
 }
 
-// A float's bits.
-fn float_bits(bits: u64, wide: bool) -> bool {
+// A float's value and bits, with a byte between them.
+fn float(bits: u64, wide: bool, between: u8) -> bool {
+    say::byte(OUT, b' ');
+    float_value(bits, wide);
+    say::byte(OUT, between);
+    say::byte(OUT, b'0');
+    say::byte(OUT, b'x');
     if wide {
-        return io::write_all(OUT, b"0x") && say::hex(OUT, bits, 16);
+        return say::hex(OUT, bits, 16);
     }
-    io::write_all(OUT, b"0x") && say::hex(OUT, bits, 8)
+    say::hex(OUT, bits, 8)
 }
 
-// A float's value and bits, with a word between them.
-fn float(word: &[u8], bits: u64, wide: bool, between: &[u8]) -> bool {
-    io::write_all(OUT, word)
-        && float_value(bits, wide)
-        && io::write_all(OUT, between)
-        && float_bits(bits, wide)
+// A row's float.
+fn float_row(bits: u64, wide: bool) -> bool {
+    if wide {
+        phrase::word(OUT, phrase::FLOAT64);
+    } else {
+        phrase::word(OUT, phrase::FLOAT32);
+    }
+    float(bits, wide, b' ')
+}
+
+// A row's signed number.
+fn signed_row(z: i64) -> bool {
+    phrase::word(OUT, phrase::SIGNED);
+    say::byte(OUT, b' ');
+    say::signed(OUT, z)
 }
 
 // The signed number of so many bytes' two's complement.
@@ -75,12 +92,14 @@ fn signed_of(v: u64, half: u64) -> i64 {
 
 // An element of a kind, from its bytes as a number.
 fn element(v: u64, elem: u8) -> bool {
-    match elem {
-        10 => float(b" ", v, false, b":"),
-        11 => float(b" ", v, true, b":"),
-        6..=9 => say::signed(OUT, b" ", signed_of(v, kind::bound(elem))),
-        _ => say::field(OUT, b" ", v),
+    if kind::FLOAT32 <= elem {
+        return float(v, elem == kind::FLOAT64, b':');
     }
+    say::byte(OUT, b' ');
+    if kind::SINT8 <= elem {
+        return say::signed(OUT, signed_of(v, kind::bound(elem)));
+    }
+    io::print_decimal(OUT, v)
 }
 
 // The number of the w bytes at a place, and 0 where they aren't there.
@@ -116,34 +135,42 @@ fn elements(s: &[u8], elem: u8) -> bool {
     true
 }
 
-// A run of bytes: its place in the payload, its length, and what it says.
-fn run(payload: &[u8], place: usize, len: usize, elem: u8) -> bool {
-    let s = part::part_of(
-        payload,
-        Part {
-            at: place,
-            len: len,
-        },
-    );
-    if !(say::field(OUT, b" bytes ", place as u64) && say::field(OUT, b" ", len as u64)) {
-        return false;
-    }
+// What a run of bytes says: a text, or the elements of an array.
+fn content(s: &[u8], elem: u8) -> bool {
     if elem == 0 {
-        return io::write_all(OUT, b" ") && quote::print(OUT, s);
+        say::byte(OUT, b' ');
+        return quote::print(OUT, s);
     }
     elements(s, elem)
+}
+
+// A run of bytes: its place in the payload, its length, and what it says.
+fn run(payload: &[u8], place: usize, len: usize, elem: u8) -> bool {
+    phrase::field(OUT, phrase::BYTES, place as u64);
+    say::byte(OUT, b' ');
+    io::print_decimal(OUT, len as u64);
+    content(
+        part::part_of(
+            payload,
+            Part {
+                at: place,
+                len: len,
+            },
+        ),
+        elem,
+    )
 }
 
 // What a row shows, whose element kind is 0 if it is no array's.
 pub fn shown(r: Row, payload: &[u8], elem: u8) -> bool {
     let v = r.value;
     match v {
-        Value::Absent => io::write_all(OUT, b" absent"),
-        Value::Unsigned(n) => say::field(OUT, b" unsigned ", n),
-        Value::Signed(z) => say::signed(OUT, b" signed ", z),
-        Value::Float32(_) => float(b" float32 ", r.bits, false, b" "),
-        Value::Float64(_) => float(b" float64 ", r.bits, true, b" "),
+        Value::Absent => phrase::word(OUT, phrase::ABSENT),
+        Value::Unsigned(n) => phrase::field(OUT, phrase::UNSIGNED, n),
+        Value::Signed(z) => signed_row(z),
+        Value::Float32(_) => float_row(r.bits, false),
+        Value::Float64(_) => float_row(r.bits, true),
         Value::Bytes { place, len } => run(payload, place, len, elem),
-        Value::Members => io::write_all(OUT, b" members"),
+        Value::Members => phrase::word(OUT, phrase::MEMBERS),
     }
 }

@@ -10,6 +10,7 @@ ghost use Prim.Native.Nat.{_≤_, _<_};
 use super::complain;
 use super::complain::Got;
 use super::kind;
+use super::phrase;
 use super::row_line;
 use super::scalar;
 use super::table_file;
@@ -231,7 +232,7 @@ fn run_to(from: usize, to: usize) -> Entry {
 }
 
 // What is wrong with a quotation.
-fn no_text(path: &[u8], nth: usize, word: &[u8], what: &[u8]) -> Entry {
+fn no_text(path: &[u8], nth: usize, word: &[u8], what: usize) -> Entry {
     complain::of_word(path, nth, word, what);
     wrong()
 }
@@ -243,14 +244,9 @@ fn text_of(path: &[u8], nth: usize, quoted: &[u8], used: usize, content: &mut [u
     }
     match quote::read(quoted, &mut content[used..]) {
         Quoted::Text(n) => run_of(used, n),
-        Quoted::Open => no_text(path, nth, quoted, b" lacks its last quotation mark"),
-        Quoted::Escape => no_text(
-            path,
-            nth,
-            quoted,
-            b" has a backslash before none of \" \\ n r t and x with two hexadecimal digits",
-        ),
-        Quoted::Long => no_text(path, nth, quoted, b" is more text than there is room for"),
+        Quoted::Open => no_text(path, nth, quoted, phrase::OPEN_TEXT),
+        Quoted::Escape => no_text(path, nth, quoted, phrase::NO_ESCAPE),
+        Quoted::Long => no_text(path, nth, quoted, phrase::LONG_TEXT),
     }
 }
 
@@ -266,7 +262,7 @@ fn text_at(
     let w = word::next(line, at);
     let quoted = slice::between(line, w.from, w.to);
     if slice::byte_at(quoted, 0) != b'"' {
-        return no_text(path, nth, quoted, b" is no text in quotation marks");
+        return no_text(path, nth, quoted, phrase::NO_TEXT);
     }
     if !table_file::ends(path, nth, line, w.to) {
         return wrong();
@@ -304,11 +300,7 @@ fn element_at(
     };
     let size = kind::size(elem);
     if !put(content, used, size, v) || 100000 < used {
-        complain::of_line(
-            path,
-            nth,
-            b"the array is more content than there is room for",
-        );
+        complain::of_line(path, nth, phrase::LONG_ARRAY);
         return 0;
     }
     used % 131072 + size % 16
@@ -358,12 +350,7 @@ fn struct_at(path: &[u8], nth: usize, line: &[u8], at: usize, used: usize) -> En
         };
         return made(row, used);
     }
-    complain::of_word(
-        path,
-        nth,
-        mark,
-        b": a struct is present (or members) or absent",
-    );
+    complain::of_word(path, nth, mark, phrase::NO_STRUCT);
     wrong()
 }
 
@@ -412,7 +399,7 @@ fn numbered(path: &[u8], nth: usize, line: &[u8], w: Word, s: Sheet, all: &[u8])
     let got = complain::number_to(
         path,
         nth,
-        b"row",
+        phrase::ROW,
         slice::between(line, w.from, w.to),
         s.count as u64,
     );
@@ -420,7 +407,7 @@ fn numbered(path: &[u8], nth: usize, line: &[u8], w: Word, s: Sheet, all: &[u8])
         return Target { row: 0, at: 0 };
     };
     if n == 0 {
-        complain::of_line(path, nth, b"row 0: rows are counted from 1");
+        complain::of_line(path, nth, phrase::ROW_0);
     }
     let row = (n % 128) as usize;
     let ident = word::next(line, w.to);
@@ -439,12 +426,7 @@ fn by_name(path: &[u8], nth: usize, line: &[u8], w: Word, s: Sheet, all: &[u8]) 
     let name = slice::between(line, w.from, w.to);
     let row = row_line::named(s, all, name);
     if row == 0 {
-        complain::of_word(
-            path,
-            nth,
-            name,
-            b" is the name of no row, and no field of the header",
-        );
+        complain::of_word(path, nth, name, phrase::NAMES_NONE);
     }
     Target { row: row, at: w.to }
 }
@@ -479,9 +461,9 @@ fn with_row(
         complain::of_number(
             path,
             nth,
-            b"the row's value stands in line ",
+            phrase::VALUE_IN_LINE,
             before as u64,
-            b" already",
+            phrase::ALREADY,
         );
         return v.failed();
     }
@@ -500,20 +482,25 @@ fn most_of(which: usize) -> u64 {
     65535
 }
 
+// The phrase of a field of the header.
+fn field_phrase(which: usize) -> usize {
+    match which {
+        0 => phrase::CLIENT,
+        1 => phrase::SESSION,
+        2 => phrase::CODE,
+        _ => phrase::AFTER,
+    }
+}
+
 // A field of the header. What show tells of the bytes after the message has no part in a datagram that is made.
 fn header_field(path: &[u8], nth: usize, name: &[u8], value: &[u8], values: Values) -> Values {
     let mut v = values;
     let which = list::index(b"client;session;code;after;", name);
     if 4 <= which {
-        complain::of_word(
-            path,
-            nth,
-            name,
-            b" is no field of the header: client, session or code",
-        );
+        complain::of_word(path, nth, name, phrase::NO_FIELD);
         return v.failed();
     }
-    let got = complain::number_to(path, nth, name, value, most_of(which));
+    let got = complain::number_to(path, nth, field_phrase(which), value, most_of(which));
     let Got::Is(n) = got else {
         return v.failed();
     };
@@ -561,7 +548,7 @@ fn verdict_line(path: &[u8], nth: usize, line: &[u8], at: usize, v: Values) -> V
         Number::Large => {}
         Number::Not => {}
     }
-    complain::of_line(path, nth, b"a refused datagram has no values");
+    complain::of_line(path, nth, phrase::REFUSED);
     v.failed()
 }
 

@@ -6,6 +6,7 @@ use super::big;
 use super::float::Decimal;
 use super::number;
 use super::number::Number;
+use super::say;
 use super::slice;
 
 // What a text is as a decimal: one, one with more than 18 digits or an exponent that no float has, or none.
@@ -188,34 +189,47 @@ fn pointed(fd: i32, s: &[u8], n: usize) -> bool {
     if s.len() <= n {
         return io::write_all(fd, s);
     }
-    io::write_all(fd, slice::between(s, 0, n))
-        && io::write_all(fd, b".")
-        && io::write_all(fd, slice::between(s, n, s.len()))
+    io::write_all(fd, slice::between(s, 0, n));
+    say::byte(fd, b'.');
+    io::write_all(fd, slice::between(s, n, s.len()))
 }
 
-// An exponent: how far the first digit stands before or behind the unit.
-fn exponent(fd: i32, first: usize) -> bool {
+// Digits with an exponent: how far the first stands before or behind the unit.
+fn with_power(fd: i32, s: &[u8], first: usize) -> bool {
+    pointed(fd, s, 1);
+    say::byte(fd, b'e');
     if first <= big::UNIT {
-        return io::write_all(fd, b"e+") && io::print_decimal(fd, (big::UNIT - first) as u64);
+        say::byte(fd, b'+');
+        return io::print_decimal(fd, (big::UNIT - first) as u64);
     }
-    io::write_all(fd, b"e-") && io::print_decimal(fd, (first - big::UNIT) as u64)
+    say::byte(fd, b'-');
+    io::print_decimal(fd, (first - big::UNIT) as u64)
+}
+
+// Digits behind a point and so many zeros.
+fn below_one(fd: i32, s: &[u8], n: usize) -> bool {
+    say::byte(fd, b'0');
+    say::byte(fd, b'.');
+    zeros(fd, n);
+    io::write_all(fd, s)
 }
 
 // Digits whose first and last stand at indices.
 fn print_digits(fd: i32, s: &[u8], first: usize, last: usize) -> bool {
     if first < 307 {
-        return pointed(fd, s, 1) && exponent(fd, first);
+        return with_power(fd, s, first);
     }
     if last <= big::UNIT {
-        return io::write_all(fd, s) && zeros(fd, big::UNIT - last);
+        io::write_all(fd, s);
+        return zeros(fd, big::UNIT - last);
     }
     if first <= big::UNIT {
         return pointed(fd, s, big::UNIT + 1 - first);
     }
     if first < big::UNIT + 6 {
-        return io::write_all(fd, b"0.") && zeros(fd, first - big::UNIT - 1) && io::write_all(fd, s);
+        return below_one(fd, s, first - big::UNIT - 1);
     }
-    pointed(fd, s, 1) && exponent(fd, first)
+    with_power(fd, s, first)
 }
 
 // Writes a decimal: plain from 0.00001 up to 17 digits before the point, with an exponent else.

@@ -216,28 +216,18 @@ fn is_back(d: Decimal, bits: u64, wide: bool) -> bool {
     }
 }
 
-// How many digits every decimal may have that a float is to keep.
-fn fewest(wide: bool) -> usize
-    ensures { λ r. ⌜ (0 < r) × (r ≤ 17) ⌝ }
-{
-    if wide {
-        return 15;
-    }
-    6
-}
-
-// The decimal of a float that is no infinity and no NaN, from its bits without the sign: with the fewest digits from 6 or, of a float64, 15 on
-// that are read back as the same float, zeros at the end left out. 9 or 17 always are.
+// The decimal of a float that is no infinity and no NaN, from its bits without the sign: rounded to the fewest digits that are read back as the
+// same float. 9 digits, or 17 of a float64, always are.
 pub fn decimal_of(bits: u64, wide: bool) -> Decimal {
     let x = exact(bits, wide);
     let first = big::first_digit(&x);
-    if 1999 < first {
+    if big::DIGITS <= first {
         return Decimal {
             digits: 0,
             last: big::UNIT,
         };
     }
-    let mut n = fewest(wide);
+    let mut n: usize = 1;
     while n < 17 {
         let d = to_digits(&x, first, n);
         if is_back(d, bits, wide) {

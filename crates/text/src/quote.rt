@@ -46,16 +46,26 @@ fn character_end(s: &[u8], at: usize) -> usize
     at + n
 }
 
+// The letter that stands for a byte behind a backslash; x of those that digits follow.
+fn letter(b: u8) -> u8 {
+    match b {
+        b'"' | b'\\' => b,
+        b'\n' => b'n',
+        b'\r' => b'r',
+        b'\t' => b't',
+        _ => b'x',
+    }
+}
+
 // A byte, escaped.
 fn escaped(fd: i32, b: u8) -> bool {
-    match b {
-        b'"' => io::write_all(fd, b"\\\""),
-        b'\\' => io::write_all(fd, b"\\\\"),
-        b'\n' => io::write_all(fd, b"\\n"),
-        b'\r' => io::write_all(fd, b"\\r"),
-        b'\t' => io::write_all(fd, b"\\t"),
-        _ => io::write_all(fd, b"\\x") && say::hex(fd, b as u64, 2),
+    say::byte(fd, b'\\');
+    let c = letter(b);
+    if c == b'x' {
+        say::byte(fd, c);
+        return say::hex(fd, b as u64, 2);
     }
+    say::byte(fd, c)
 }
 
 // Bytes, each escaped.
@@ -93,7 +103,9 @@ fn characters(fd: i32, s: &[u8]) -> bool {
 
 // Writes a text in quotation marks, and answers whether all was written.
 pub fn print(fd: i32, s: &[u8]) -> bool {
-    io::write_all(fd, b"\"") && characters(fd, s) && io::write_all(fd, b"\"")
+    say::byte(fd, b'"');
+    characters(fd, s);
+    say::byte(fd, b'"')
 }
 
 // What a quotation is: so many bytes of text; a mark missing at its end; a backslash before what is no escape; or more than there is room for.

@@ -7,6 +7,12 @@ use super::slice;
 use wire::number;
 use wire::verdict::ReturnCode;
 
+// One byte.
+pub fn byte(fd: i32, b: u8) -> bool {
+    let one = [b];
+    io::write_all(fd, &one)
+}
+
 // A word and a number.
 pub fn field(fd: i32, word: &[u8], n: u64) -> bool {
     io::write_all(fd, word) && io::print_decimal(fd, n)
@@ -23,12 +29,12 @@ fn magnitude(z: i64) -> u64
     18446744073709551615 - u + 1
 }
 
-// A word and a signed number.
-pub fn signed(fd: i32, word: &[u8], z: i64) -> bool {
+// A signed number.
+pub fn signed(fd: i32, z: i64) -> bool {
     if z < 0 {
-        return io::write_all(fd, word) && field(fd, b"-", magnitude(z));
+        byte(fd, b'-');
     }
-    field(fd, word, magnitude(z))
+    io::print_decimal(fd, magnitude(z))
 }
 
 // A hexadecimal digit, in capitals.

@@ -9,10 +9,10 @@ use Rattle.desk.proofs.hex.bytes_of.Statement.{statement}
 use Rattle.desk.proofs.hex.bytes_of.Tie as tie
 
 abbrev Inv-loop : tie.InvT-loop
-Inv-loop path s out₀ n₀ high₀ i₀ t9 out n high i = (n ≤ i) × (length out ≡ length out₀)
+Inv-loop path s out₀ n₀ high₀ i₀ out n high i = (n ≤ i) × (length out ≡ length out₀)
 
 abbrev μ-loop : tie.MeasureT-loop
-μ-loop path s out₀ n₀ high₀ i₀ t9 out n high i = length s - i
+μ-loop path s out₀ n₀ high₀ i₀ out n high i = length s - i
 
 loop-holds : tie.Need-loop-holds Inv-loop μ-loop
 loop-holds c = search needs
@@ -71,9 +71,6 @@ loop-less-3 c = search needs
 loop-again-3 : tie.Need-loop-again-3 Inv-loop μ-loop
 loop-again-3 c = search needs
 
-slice-aggregate-of-file : tie.Need-slice-aggregate-of-file Inv-loop μ-loop
-slice-aggregate-of-file c = search needs
-
 of-file-requires : tie.Need-of-file-requires Inv-loop μ-loop
 of-file-requires c κs = search needs
 
@@ -120,7 +117,6 @@ bytes-of-spec =
     loop-again-2
     loop-less-3
     loop-again-3
-    slice-aggregate-of-file
     of-file-requires
     same-length-3
     returns-3

@@ -20,9 +20,6 @@ first-digit-requires c κs = search needs
 returns : tie.Need-returns Inv-loop μ-loop
 returns c = search needs
 
-fewest-requires : tie.Need-fewest-requires Inv-loop μ-loop
-fewest-requires c κs = search needs
-
 loop-holds : tie.Need-loop-holds Inv-loop μ-loop
 loop-holds c = search needs
 
@@ -59,7 +56,6 @@ decimal-of-spec =
     exact-requires
     first-digit-requires
     returns
-    fewest-requires
     loop-holds
     to-digits-requires
     is-back-requires

@@ -14,8 +14,8 @@ abbrev μ-loop : tie.MeasureT-loop
 loop-holds : tie.Need-loop-holds Inv-loop μ-loop
 loop-holds c = search needs
 
-part-if-requires : tie.Need-part-if-requires Inv-loop μ-loop
-part-if-requires c κs = search needs
+part-requires : tie.Need-part-requires Inv-loop μ-loop
+part-requires c κs = search needs
 
 add-i : tie.Need-add-i Inv-loop μ-loop
 add-i c = search needs
@@ -32,4 +32,4 @@ returns c = search needs
 pub parts-spec : {M : Type 1} → statement M
 parts-spec =
     tie.close
-    (tie.spec Inv-loop μ-loop loop-holds part-if-requires add-i loop-less loop-again returns)
+    (tie.spec Inv-loop μ-loop loop-holds part-requires add-i loop-less loop-again returns)
