@@ -92,8 +92,8 @@ wrong 'a large interface' 'interface 256' 't:1: interface: "256" is over 255'
 wrong 'a number over 64 bits' 'interface 99999999999999999999' 't:1: interface: "99999999999999999999" is over 255'
 wrong 'a word too many' 'service 1 2 # 3' 't:1: "2" is a word too many'
 wrong 'no Message Type' 'type event' 't:1: "event" is none of request, request_no_return, notification, response, error'
-wrong 'width 3' 'width 3 tagged' 't:1: width 3: a length field has 1, 2 or 4 bytes'
-wrong 'width 0' 'width 0 tagged' 't:1: width 0: a length field has 1, 2 or 4 bytes'
+wrong 'width 3' 'width 3 tagged' 't:1: width 3 is wrong: a length field has 1, 2 or 4 bytes'
+wrong 'width 0' 'width 0 tagged' 't:1: width 0 is wrong: a length field has 1, 2 or 4 bytes'
 wrong 'width 8' 'width 8 tagged' 't:1: width: "8" is over 4'
 wrong 'no mark of the width' 'width 1' 't:1: "" is neither tagged nor static, one of which stands behind the width'
 wrong 'another mark of the width' 'width 1 told' 't:1: "told" is neither tagged nor static, one of which stands behind the width'
@@ -107,9 +107,9 @@ rows 'level 5' '5 1 uint8 optional a' 't:6: level: "5" is over 4'
 rows 'no level' '1x 1 uint8 optional a' 't:6: level: "1x" is no number'
 rows 'a first row of level 2' '2 1 uint8 optional a' 't:6: level 2 of the first row: it has to be 1'
 rows 'a level behind no struct' '1 1 uint8 optional a
-2 1 uint8 optional b' 't:7: level 2 after level 1: a level is at most the one before it, or one more than a struct'"'"'s'
+2 1 uint8 optional b' "t:7: level 2 after level 1 is wrong: a level is at most the one before it, or one more than a struct's"
 rows 'a level two deeper' '1 1 struct optional a
-3 1 uint8 optional b' 't:7: level 3 after level 1: a level is at most the one before it, or one more than a struct'"'"'s'
+3 1 uint8 optional b' "t:7: level 3 after level 1 is wrong: a level is at most the one before it, or one more than a struct's"
 rows 'a Data ID over 4095' '1 4096 uint8 optional a' 't:6: Data ID: "4096" is over 4095'
 rows 'no Data ID' '1 uint8 optional a' 't:6: Data ID: "uint8" is no number'
 rows 'a line that ends' '1' 't:6: Data ID: a number is missing'
@@ -124,7 +124,7 @@ rows 'an unknown kind' '1 1 int8 optional a' 't:6: "int8" is no kind: boolean, u
 rows 'no kind' '1 1' 't:6: "" is no kind: boolean, uint8 to uint64, sint8 to sint64, float32, float64, string, array or struct'
 rows 'an array of nothing' '1 1 array optional a' 't:6: "optional" is no element kind: behind array stands one of boolean to float64'
 rows 'an array of texts' '1 1 array string optional a' 't:6: "string" is no element kind: behind array stands one of boolean to float64'
-rows 'an element kind of no array' '1 1 uint8 uint8 optional a' 't:6: "uint8": only an array has an element kind'
+rows 'an element kind of no array' '1 1 uint8 uint8 optional a' 't:6: "uint8" stands behind no array: only an array has an element kind'
 rows 'a struct at level 4' '1 1 struct optional a
 2 1 struct optional b
 3 1 struct optional c
@@ -139,14 +139,14 @@ rows 'a name that begins with a digit' '1 1 uint8 optional 2nd' \
     't:6: "2nd" is no name: it begins with a letter and has letters, digits, _ - and . only'
 rows 'a name that values use' '1 1 uint8 optional client' 't:6: "client" is a word that lines of values use, and no name'
 rows 'a name twice' '1 1 uint8 optional a
-1 2 uint8 optional A' 't:7: the name "A" stands in line 6 already'
+1 2 uint8 optional A' 't:7: "A" stands in line 6 already'
 rows 'a word behind the name' '1 1 uint8 optional a b' 't:6: "b" is a word too many'
 rows 'no row' '# none' 't: the table has no row, and it needs 1 to 64'
 rows '65 rows' "$(i=0; while [ $i -le 64 ]; do echo "1 $i uint8 optional n$i"; i=$((i + 1)); done)" 't:70: a row too many: a table has 1 to 64'
 for setting in service method interface type width; do
-    wrong "no $setting" "$(printf '%s\n1 1 uint8 optional a' "$head" | grep -v "^$setting")" "t: the setting $setting is missing"
+    wrong "no $setting" "$(printf '%s\n1 1 uint8 optional a' "$head" | grep -v "^$setting")" "t: the table lacks a setting: $setting"
 done
-wrong 'nothing at all' '' 't: the setting service is missing'
+wrong 'nothing at all' '' 't: the table lacks a setting: service'
 head -c 65536 /dev/zero | tr '\0' '#' >t
 desk show t </dev/null >out 2>said
 : >lines
@@ -238,7 +238,7 @@ desk show t good bad gone good >out 2>said
     echo '== good' && lines_w 'verdict 0 code 0 place 0 skipped 0 accepted' absent 'signed -125' absent absent absent
     echo '== bad' && lines_w 'verdict 27 code 9 place 0 skipped 0 missing at payload byte 0: a level ends without a required member' absent absent absent absent absent
     echo '== good' && lines_w 'verdict 0 code 0 place 0 skipped 0 accepted' absent 'signed -125' absent absent absent
-    echo '3 datagrams: 2 accepted (0), 1 missing (27); not read: 1'
+    echo '3 datagrams: 2 accepted (0), 1 missing (27); 1 not read'
 } >lines
 echo 'gone: No such file or directory' >errors
 compare 'three datagrams and a file that is gone'
@@ -278,14 +278,14 @@ refuses 'no value' '
 temperature' 'v:2: the value is missing'
 refuses 'no number' 'temperature warm' 'v:1: value: "warm" is no number'
 refuses 'a number too large' 'temperature 32768' 'v:1: value: "32768" is over 32767'
-refuses 'a number too small' 'temperature -32769' 'v:1: "-32769" is below the least that the row'"'"'s kind has'
+refuses 'a number too small' 'temperature -32769' "v:1: \"-32769\" is below the least that the row's kind has"
 refuses 'two values' 'temperature 1 2' 'v:1: "2" is a word too many'
 refuses 'a value twice' 'temperature 1
 2 1' "v:2: the row's value stands in line 1 already"
 refuses 'no text' 'note Frost' 'v:1: "Frost" is no text in quotation marks'
 refuses 'a text that is left open' 'note "Frost' 'v:1: "\"Frost" lacks its last quotation mark'
 refuses 'an unknown escape' 'note "\q"' 'v:1: "\"\\q\"" has a backslash before none of " \ n r t and x with two hexadecimal digits'
-refuses 'no struct' 'place 1' 'v:1: "1": a struct is present (or members) or absent'
+refuses 'no struct' 'place 1' 'v:1: "1" is no value of a struct: it is present (or members) or absent'
 refuses 'a large session' 'session 65536' 'v:1: session: "65536" is over 65535'
 refuses 'no field of the header' 'client 1 depot 2' 'v:1: "depot" is no field of the header: client, session or code'
 refuses 'a refused datagram' 'verdict 27 code 9' 'v:1: a refused datagram has no values'
@@ -375,8 +375,8 @@ float 'zero' half 0 '0 0x00000000'
 float 'minus zero' half -0 '-0 0x80000000'
 float 'a tenth' half 0.1 '0.1 0x3DCCCCCD'
 float 'a third of nine digits' half 0.333333343 '0.33333334 0x3EAAAAAB'
-float 'the least float32' half 1e-45 '1.4013e-45 0x00000001'
-float 'the largest subnormal float32' half 0x007FFFFF '1.17549421e-38 0x007FFFFF'
+float 'the least float32' half 1e-45 '1e-45 0x00000001'
+float 'the largest subnormal float32' half 0x007FFFFF '1.1754942e-38 0x007FFFFF'
 float 'the largest float32' half 3.4028235e38 '3.4028235e+38 0x7F7FFFFF'
 float 'half way to the even' half 16777217 '16777216 0x4B800000'
 float 'above half way' half 16777217.00000001 '16777218 0x4B800001'
@@ -386,15 +386,15 @@ float 'infinity' half inf 'inf 0x7F800000'
 float 'value and bits, which decide' half 'float32 1 0x40000000' '2 0x40000000'
 float 'a tenth, wide' whole 0.1 '0.1 0x3FB999999999999A'
 float 'seventeen digits' whole 0.30000000000000004 '0.30000000000000004 0x3FD3333333333334'
-float 'the least float64' whole 4.9e-324 '4.94065645841247e-324 0x0000000000000001'
+float 'the least float64' whole 4.9e-324 '5e-324 0x0000000000000001'
 float 'the least normal float64' whole 2.2250738585072014e-308 '2.2250738585072014e-308 0x0010000000000000'
 float 'the largest float64' whole 1.7976931348623157e308 '1.7976931348623157e+308 0x7FEFFFFFFFFFFFFF'
 float 'an exponent' whole 12.5E+3 '12500 0x40C86A0000000000'
 float 'bits' whole 'bits 0x7FF8000000000000' 'nan 0x7FF8000000000000'
 float 'a NaN, wide' whole nan 'nan 0x7FF8000000000000'
 float 'less than the least' whole 1e-400 '0 0x0000000000000000'
-refuses 'a float32 too large' 'half 3.5e38' 'v:1: "3.5e38" is too large for the row'"'"'s kind'
-refuses 'half way past the largest float32' 'half 3.40282357e38' 'v:1: "3.40282357e38" is too large for the row'"'"'s kind'
+refuses 'a float32 too large' 'half 3.5e38' "v:1: \"3.5e38\" is too large for the row's kind"
+refuses 'half way past the largest float32' 'half 3.40282357e38' "v:1: \"3.40282357e38\" is too large for the row's kind"
 refuses 'an exponent that no float has' 'whole 1e309' 'v:1: "1e309" has more than 18 digits, or an exponent that no float has'
 refuses 'nineteen digits' 'whole 1.234567890123456789' 'v:1: "1.234567890123456789" has more than 18 digits, or an exponent that no float has'
 refuses 'two points' 'whole 1.2.3' 'v:1: "1.2.3" is no decimal, no bits behind 0x, and none of inf and nan'

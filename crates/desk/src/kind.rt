@@ -1,6 +1,7 @@
 // The fourteen kinds by name and number.
 
 use text::list;
+use wire::number;
 
 pub const BOOLEAN: u8 = 1;
 
@@ -52,4 +53,19 @@ pub fn bound(k: u8) -> u64 {
         9 => 9223372036854775808,
         _ => 18446744073709551615,
     }
+}
+
+// The number of a signed kind whose two's complement is v; 0 where none is.
+pub fn signed_of(v: u64, k: u8) -> i64 {
+    let half = bound(k);
+    if half == 0 {
+        return 0;
+    }
+    if 9223372036854775808 < half {
+        return 0;
+    }
+    if v / 2 < half {
+        return number::signed_of(v, half);
+    }
+    0
 }

@@ -100,7 +100,9 @@ impl Tally {
 // How many files could not be read.
 fn say_unread(n: u64) {
     say::byte(OUT, b';');
-    phrase::field(OUT, phrase::NOT_READ, n);
+    say::byte(OUT, b' ');
+    io::print_decimal(OUT, n);
+    phrase::word(OUT, phrase::NOT_READ);
 }
 
 // A count, and the verdict's word and number.

@@ -76,20 +76,6 @@ fn signed_row(z: i64) -> bool {
     say::signed(OUT, z)
 }
 
-// The signed number of so many bytes' two's complement.
-fn signed_of(v: u64, half: u64) -> i64 {
-    if half == 0 {
-        return 0;
-    }
-    if 9223372036854775808 < half {
-        return 0;
-    }
-    if v / 2 < half {
-        return number::signed_of(v, half);
-    }
-    0
-}
-
 // An element of a kind, from its bytes as a number.
 fn element(v: u64, elem: u8) -> bool {
     if kind::FLOAT32 <= elem {
@@ -97,7 +83,7 @@ fn element(v: u64, elem: u8) -> bool {
     }
     say::byte(OUT, b' ');
     if kind::SINT8 <= elem {
-        return say::signed(OUT, signed_of(v, kind::bound(elem)));
+        return say::signed(OUT, kind::signed_of(v, elem));
     }
     io::print_decimal(OUT, v)
 }

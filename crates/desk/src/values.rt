@@ -126,7 +126,7 @@ impl Values {
 fn scalar_row(v: u64, k: u8) -> Row {
     match k {
         6..=9 => Row {
-            value: Value::Signed(signed_of(v, kind::bound(k))),
+            value: Value::Signed(kind::signed_of(v, k)),
             bits: 0,
         },
         10 => Row {
@@ -142,20 +142,6 @@ fn scalar_row(v: u64, k: u8) -> Row {
             bits: 0,
         },
     }
-}
-
-// The signed number of a two's complement.
-pub fn signed_of(v: u64, half: u64) -> i64 {
-    if half == 0 {
-        return 0;
-    }
-    if 9223372036854775808 < half {
-        return 0;
-    }
-    if v / 2 < half {
-        return number::signed_of(v, half);
-    }
-    0
 }
 
 // Whether a word is one that show puts before a number.

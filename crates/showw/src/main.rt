@@ -3,12 +3,13 @@
 // A datagram has at most 65,535 bytes. A longer input, or one that can't be read, prints nothing but a message on standard error. A Rattle
 // program has no exit status: that nothing stands on standard output tells that no datagram was shown.
 
-mod input;
 mod show;
 mod table_w;
 
-use input::Input;
 use libc::STDERR_FILENO;
+use libc::STDIN_FILENO;
+use text::input;
+use text::input::Input;
 
 // Says what went wrong, where it can't be taken for an answer.
 fn complain(what: &[u8]) {
@@ -25,8 +26,8 @@ fn show_datagram(d: &[u8]) {
 // The whole input is the datagram; the buffer has one byte more than a datagram, so that no input is cut.
 fn main() {
     let mut buf = io::large_buffer();
-    match input::read_input(&mut buf) {
-        Input::Datagram(n) => show_datagram(&buf[..n]),
+    match input::read_input(STDIN_FILENO, &mut buf) {
+        Input::Bytes(n) => show_datagram(&buf[..n]),
         Input::Long => complain(
             b"showw: the input is longer than 65535 bytes, the most that a datagram has\n",
         ),

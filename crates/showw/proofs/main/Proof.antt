@@ -5,13 +5,13 @@ use Prim.Native.Nat.{ℕ}
 use mathlib.Core.List.{List}
 use borrow.Author.Needs.{needs}
 use Rattle.io.specs.Counts.{Counts}
-use Rattle.showw.specs.declared.input.Input.{Input}
-use Rattle.showw.specs.declared.input.Input.the-variants.{Datagram}
-use Rattle.showw.specs.Input.{Taken}
+use Rattle.text.specs.declared.input.Input.{Input}
+use Rattle.text.specs.declared.input.Input.the-variants.{Bytes}
+use Rattle.text.specs.Input.{Taken}
 use Rattle.showw.proofs.main.Statement.{statement}
 use Rattle.showw.proofs.main.Tie as tie
 
-counted : (buf : List ℕ) (i : Input) (n : ℕ) → i ≡ Datagram n → Taken buf i → Counts n buf
+counted : (buf : List ℕ) (i : Input) (n : ℕ) → i ≡ Bytes n → Taken buf i → Counts n buf
 counted buf i n e t = (rw e at t) .0
 
 large-buffer-requires : tie.Need-large-buffer-requires
