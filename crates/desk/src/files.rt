@@ -1,5 +1,7 @@
 // Files by their names; - is standard input.
 
+ghost use mathlib.Core.Path.{_≡_};
+ghost use lib.ListN.{length};
 ghost use Rattle.text.specs.Input.{Taken};
 ghost use Rattle.io.specs.Counts.{Counts};
 use super::complain;
@@ -47,11 +49,18 @@ pub fn argument(i: usize, buf: &mut [u8]) -> usize
     os::arg(i, buf)
 }
 
+// 262,144 zeros, for the digits of the longest datagram with white space between them.
+fn digits_buffer() -> [u8; 262144]
+    ensures { λ r. ⌜ 262144 ≡ length r ⌝ }
+{
+    [0; 262144]
+}
+
 // Reads a datagram from a file that has its bytes as hexadecimal digits.
 fn read_digits(path: &[u8], buf: &mut [u8]) -> Input
     ensures { λ r. ⌜ Taken (now (buf .exit)) r ⌝ }
 {
-    let mut all = [0u8; 262144];
+    let mut all = digits_buffer();
     match read_file(path, &mut all) {
         Input::Bytes(n) => hex::bytes_of(path, slice::between(&all, 0, n), buf),
         Input::Long => {

@@ -91,32 +91,46 @@ fn broken(row: TypeRow, r: Row, opened: u8, content: &[u8]) -> usize {
 }
 
 // Names a row and the rule that its value breaks.
-fn say_broken(path: &[u8], nth: usize, name: &[u8], rule: usize) {
+fn say_broken(path: &[u8], i: usize, s: Sheet, all: &[u8], rule: usize) {
+    let name = s.name(i);
     complain::of(path);
     phrase::item(ERR, phrase::VERDICT, 30);
     phrase::word(ERR, phrase::VALUE);
     say::byte(ERR, b':');
-    phrase::field(ERR, phrase::ROW, nth as u64);
+    phrase::field(ERR, phrase::ROW, i as u64 % 64 + 1);
     say::byte(ERR, b' ');
-    io::write_all(ERR, name);
+    io::write_all(ERR, slice::between(all, name.from, name.to));
     say::byte(ERR, b' ');
     phrase::line(ERR, phrase::IS_REQUIRED + rule % 3);
+}
+
+// Which rule the value of a row, counted from 0, breaks.
+fn broken_at(i: usize, v: Values, s: Sheet, opened: u8, content: &[u8]) -> usize {
+    if 64 <= i {
+        return 3;
+    }
+    broken(s.rows[i], v.rows[i], opened, content)
+}
+
+// The levels that are present behind a row, counted from 0.
+fn opened_at(i: usize, v: Values, s: Sheet, opened: u8) -> u8 {
+    if 64 <= i {
+        return opened;
+    }
+    opened_by(s.rows[i], opened, is_present(v.rows[i]))
 }
 
 // Whether every row's value fits, with a message for the first that doesn't.
 fn all_fit(path: &[u8], v: Values, s: Sheet, all: &[u8], content: &[u8]) -> bool {
     let mut opened: u8 = 1;
     let mut i: usize = 0;
-    while i < 64 && i < s.count {
-        let row = s.rows[i];
-        let r = v.rows[i];
-        let rule = broken(row, r, opened, content);
+    while i < s.count {
+        let rule = broken_at(i, v, s, opened, content);
         if rule != 3 {
-            let name = s.names[i];
-            say_broken(path, i + 1, slice::between(all, name.from, name.to), rule);
+            say_broken(path, i, s, all, rule);
             return false;
         }
-        opened = opened_by(row, opened, is_present(r));
+        opened = opened_at(i, v, s, opened);
         i += 1;
     }
     true

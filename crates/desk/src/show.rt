@@ -27,20 +27,28 @@ fn row_line(nth: u64, ident: u16, name: &[u8], r: Row, payload: &[u8], elem: u8)
     say::byte(OUT, b'\n')
 }
 
-// A line for each row of the table, whatever the verdict. The names stand in the table's text.
+// The line of a row, counted from 0. The names stand in the table's text.
+fn row_at(i: usize, r: Reading, s: Sheet, all: &[u8], payload: &[u8]) -> bool {
+    if 64 <= i {
+        return true;
+    }
+    let kind = s.rows[i];
+    let name = s.name(i);
+    row_line(
+        i as u64 + 1,
+        kind.ident,
+        slice::between(all, name.from, name.to),
+        r.rows[i],
+        payload,
+        kind.elem,
+    )
+}
+
+// A line for each row of the table, whatever the verdict.
 fn rows(r: Reading, s: Sheet, all: &[u8], payload: &[u8]) -> bool {
     let mut i: usize = 0;
-    while i < 64 && i < s.count {
-        let kind = s.rows[i];
-        let name = s.names[i];
-        if !row_line(
-            i as u64 + 1,
-            kind.ident,
-            slice::between(all, name.from, name.to),
-            r.rows[i],
-            payload,
-            kind.elem,
-        ) {
+    while i < s.count {
+        if !row_at(i, r, s, all, payload) {
             return false;
         }
         i += 1;
