@@ -120,7 +120,8 @@ rows 'a Data ID twice in a struct' '1 5 struct optional a
 2 7 struct optional b
 3 1 uint8 optional c
 2 7 uint8 optional d' 't:9: Data ID 7 stands in line 7 already: it differs among the members of one struct, and among the rows of level 1'
-rows 'an unknown kind' '1 1 int8 optional a' 't:6: "int8" is no kind: boolean, uint8 to uint64, sint8 to sint64, float32, float64, string, array or struct'
+rows 'an unknown kind' '1 1 int8 optional a' \
+    't:6: "int8" is no kind: boolean, uint8 to uint64, sint8 to sint64, float32, float64, string, array or struct'
 rows 'no kind' '1 1' 't:6: "" is no kind: boolean, uint8 to uint64, sint8 to sint64, float32, float64, string, array or struct'
 rows 'an array of nothing' '1 1 array optional a' 't:6: "optional" is no element kind: behind array stands one of boolean to float64'
 rows 'an array of texts' '1 1 array string optional a' 't:6: "string" is no element kind: behind array stands one of boolean to float64'
@@ -180,7 +181,8 @@ accepts 'case a' "$c 50 05 04 10 01 0B 54 00 09 2A" 1 absent 'signed -125' membe
 turns_away 'case b' '' 'verdict 27 code 9 place 0 skipped 0 missing at payload byte 0: a level ends without a required member'
 accepts 'case c' "$c" 0 absent 'signed -125' absent absent absent
 turns_away 'case d' "$c $c" 'verdict 22 code 9 place 4 skipped 0 twice at payload byte 4: a known member that was met before at this level'
-turns_away 'case e' '20 02 00 00 00 01' "verdict 21 code 9 place 0 skipped 0 wire at payload byte 0: a known member, and its wire type is not its kind's"
+turns_away 'case e' '20 02 00 00 00 01' \
+    "verdict 21 code 9 place 0 skipped 0 wire at payload byte 0: a known member, and its wire type is not its kind's"
 turns_away 'case f' '10 02 FF' "verdict 24 code 9 place 2 skipped 0 overrun at payload byte 2: content goes past its level's end"
 turns_away 'case g' "$c 50" 'verdict 20 code 9 place 4 skipped 0 tag cut at payload byte 4: one byte is left where a tag has two'
 turns_away 'case h' "$c 50 05 00" 'verdict 27 code 9 place 7 skipped 0 missing at payload byte 7: a level ends without a required member'
@@ -189,7 +191,8 @@ accepts 'case j' "50 05 04 10 01 0B 54 00 09 2A $c" 1 absent 'signed -125' membe
 turns_away 'case k' "$c 70 09 00 00" "verdict 23 code 9 place 6 skipped 0 field cut at payload byte 6: a length field goes past its level's end"
 accepts 'case l' "$c 60 05 00 04 10 01 0B 54" 0 absent 'signed -125' members 'unsigned 2900' absent
 accepts 'case m' "$c 50 07 04 EF BB BF 00" 0 absent 'signed -125' absent absent 'bytes 10 0 ""'
-turns_away 'case n' "$c 50 07 03 EF BB BF" "verdict 26 code 9 place 7 skipped 0 text at payload byte 7: a string's content is not EF BB BF, text and 00"
+turns_away 'case n' "$c 50 07 03 EF BB BF" \
+    "verdict 26 code 9 place 7 skipped 0 text at payload byte 7: a string's content is not EF BB BF, text and 00"
 accepts 'a text with a mark, a backslash, a line and a control character' \
     "$c 50 07 0C EF BB BF 41 22 5C 0A 1B C3 A4 7F 00" 0 absent 'signed -125' absent absent 'bytes 10 8 "A\"\\\n\x1Bä\x7F"'
 accepts 'characters that Unicode does not have or that control' \
@@ -197,19 +200,31 @@ accepts 'characters that Unicode does not have or that control' \
 
 # ---- headers, bytes behind the message, other inputs
 
+# The lines with another line of the header.
+accepted='verdict 0 code 0 place 0 skipped 0 accepted'
+missing='verdict 27 code 9 place 0 skipped 0 missing at payload byte 0: a level ends without a required member'
+refused_w() { lines_w "$1" absent absent absent absent absent; } # FIRST
+accepted_w() { lines_w "$accepted" absent 'signed -125' absent absent absent; }
+headed() { sed "s/^client .*/$1/"; } # LINE
+
 printf '4A02 8001 00000008 1122 3344 01 01 02 05' | "$tools/unhex" >in
-shows 'another Service ID, with what the header has' "$(lines_w "verdict 13 code 2 place 0 skipped 0 service: the Service ID is not the table's" absent absent absent absent absent | sed 's/^client .*/client 4386 session 13124 code 5 after 0/')"
+shows 'another Service ID, with what the header has' \
+    "$(refused_w "verdict 13 code 2 place 0 skipped 0 service: the Service ID is not the table's" |
+        headed 'client 4386 session 13124 code 5 after 0')"
 printf '4A01 8001 0000000C 0000 0001 01 01 02 00 1002FF83 78797A' | "$tools/unhex" >in
-shows 'bytes behind the message' "$(lines_w 'verdict 0 code 0 place 0 skipped 0 accepted' absent 'signed -125' absent absent absent | sed 's/after 0/after 3/')"
+shows 'bytes behind the message' "$(accepted_w | headed 'client 0 session 1 code 0 after 3')"
 printf '4A01' | "$tools/unhex" >in
-shows 'two bytes' "$(lines_w 'verdict 10 code 9 place 0 skipped 0 short: fewer than 16 bytes' absent absent absent absent absent | sed 's/session 1/session 0/')"
+shows 'two bytes' \
+    "$(refused_w 'verdict 10 code 9 place 0 skipped 0 short: fewer than 16 bytes' | headed 'client 0 session 0 code 0 after 0')"
 head -c 65536 /dev/zero >in
 desk show t in >out 2>said
 : >lines
 echo 'in: longer than 65535 bytes, the most that a datagram has' >errors
 compare 'one byte over a datagram'
 head -c 65535 /dev/zero >in
-shows 'the longest datagram' "$(lines_w "verdict 11 code 9 place 0 skipped 0 length: Length below 8, or the message goes past the datagram's end" absent absent absent absent absent | sed 's/session 1/session 0/')"
+shows 'the longest datagram' \
+    "$(refused_w "verdict 11 code 9 place 0 skipped 0 length: Length below 8, or the message goes past the datagram's end" |
+        headed 'client 0 session 0 code 0 after 0')"
 
 # Digits: white space anywhere, and what is none.
 hexes() { # NAME TEXT
@@ -217,7 +232,7 @@ hexes() { # NAME TEXT
     desk show-hex t in >out 2>said
     compare "$1"
 }
-lines_w 'verdict 0 code 0 place 0 skipped 0 accepted' absent 'signed -125' absent absent absent >lines
+accepted_w >lines
 : >errors
 hexes 'digits with white space' '4a01 8001
 0000000c 00000001	0101 0200
@@ -235,17 +250,17 @@ message "$c" && cp in good
 message '' && cp in bad
 desk show t good bad gone good >out 2>said
 {
-    echo '== good' && lines_w 'verdict 0 code 0 place 0 skipped 0 accepted' absent 'signed -125' absent absent absent
-    echo '== bad' && lines_w 'verdict 27 code 9 place 0 skipped 0 missing at payload byte 0: a level ends without a required member' absent absent absent absent absent
-    echo '== good' && lines_w 'verdict 0 code 0 place 0 skipped 0 accepted' absent 'signed -125' absent absent absent
+    echo '== good' && accepted_w
+    echo '== bad' && refused_w "$missing"
+    echo '== good' && accepted_w
     echo '3 datagrams: 2 accepted (0), 1 missing (27); 1 not read'
 } >lines
 echo 'gone: No such file or directory' >errors
 compare 'three datagrams and a file that is gone'
 desk show t - good <bad >out 2>said
 {
-    echo '== -' && lines_w 'verdict 27 code 9 place 0 skipped 0 missing at payload byte 0: a level ends without a required member' absent absent absent absent absent
-    echo '== good' && lines_w 'verdict 0 code 0 place 0 skipped 0 accepted' absent 'signed -125' absent absent absent
+    echo '== -' && refused_w "$missing"
+    echo '== good' && accepted_w
     echo '2 datagrams: 1 accepted (0), 1 missing (27)'
 } >lines
 : >errors
@@ -359,7 +374,7 @@ cmp -s in first && : >out || echo 'another datagram' >out
 : >lines
 compare 'what show prints makes the same datagram'
 printf 'readings\nmarks\n' | desk make t >in 2>said
-shows 'empty arrays' "$(printf 'verdict 0 code 0 place 0 skipped 0 accepted\nclient 0 session 0 code 0 after 0\n'; desk show t in 2>/dev/null | sed -n '3,$p')"
+: >errors
 desk show t in 2>/dev/null | sed -n '8p;11p' >out
 printf '6 5 readings bytes 4 0\n9 8 marks bytes 8 0\n' >lines
 compare 'the places of empty arrays'
@@ -400,7 +415,8 @@ refuses 'nineteen digits' 'whole 1.234567890123456789' 'v:1: "1.2345678901234567
 refuses 'two points' 'whole 1.2.3' 'v:1: "1.2.3" is no decimal, no bits behind 0x, and none of inf and nan'
 refuses 'an exponent without digits' 'whole 1e' 'v:1: "1e" is no decimal, no bits behind 0x, and none of inf and nan'
 refuses 'bits over a float32' 'half 0x100000000' 'v:1: float bits: "0x100000000" is over 4294967295'
-refuses 'a heavy payload' "readings$(i=0; while [ $i -lt 700 ]; do printf ' %s' "$i"; i=$((i + 1)); done)" 'v: verdict 33 heavy: the payload would have over 1400 bytes'
+refuses 'a heavy payload' "readings$(i=0; while [ $i -lt 700 ]; do printf ' %s' "$i"; i=$((i + 1)); done)" \
+    'v: verdict 33 heavy: the payload would have over 1400 bytes'
 refuses 'a boolean of 2' 'on 2' 'v:1: value: "2" is over 1'
 
 echo "desk: $((ran - failed)) of $ran cases passed"

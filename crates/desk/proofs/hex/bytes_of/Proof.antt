@@ -1,4 +1,5 @@
--- `desk::hex::bytes_of` is safe and ends, and answers a count of the output's bytes. The loop's invariant: as many bytes are put as there is room for at most, each for a digit at least, and the output keeps its length.
+-- `desk::hex::bytes_of` is safe and ends, and answers a count of the output's bytes. The loop's invariant: each byte that is put has a digit at
+-- least, and the output keeps its length.
 -- Assumes nothing.
 use borrow.Author.Needs.{needs}
 use Prim.Native.Nat.{_≤_, _-_}

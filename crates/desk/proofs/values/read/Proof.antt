@@ -1,4 +1,5 @@
--- `desk::values::read` is safe and ends. The loop's invariant: the place is within the text, no more lines than bytes are behind it, and the content keeps its length.
+-- `desk::values::read` is safe and ends. The loop's invariant: the place is within the text, no more lines than bytes are behind it, and the
+-- content keeps its length.
 -- Assumes nothing.
 use borrow.Author.Needs.{needs}
 use Prim.Native.Nat.{_≤_, _-_, _<_}
@@ -8,7 +9,8 @@ use Rattle.desk.proofs.values.read.Statement.{statement}
 use Rattle.desk.proofs.values.read.Tie as tie
 
 abbrev Inv-loop : tie.InvT-loop
-Inv-loop path lines s all content₀ v₀ at₀ nth₀ content v at nth = (at ≤ length lines) × (nth ≤ at) × (length content ≡ length content₀) × (length lines < 18446744073709551616)
+Inv-loop path lines s all content₀ v₀ at₀ nth₀ content v at nth =
+    (at ≤ length lines) × (nth ≤ at) × (length content ≡ length content₀) × (length lines < 18446744073709551616)
 
 abbrev μ-loop : tie.MeasureT-loop
 μ-loop path lines s all content₀ v₀ at₀ nth₀ content v at nth = length lines - at

@@ -1,4 +1,5 @@
--- `text::quote::read` is safe and ends. The loop's invariant: the place stays below 100,004, the count is at most the place, and the output keeps its length.
+-- `text::quote::read` is safe and ends. The loop's invariant: the place stays below 100,004, the count is at most the place, and the output keeps its
+-- length.
 -- Assumes nothing.
 use borrow.Author.Needs.{needs}
 use Prim.Native.Nat.{_≤_, _-_}
