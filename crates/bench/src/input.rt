@@ -1,7 +1,12 @@
-// What stands where in the input. Numbers are big-endian.
+// What stands where in the input, for this program alone. Numbers are big-endian. What the value rows are, bench/run holds to the answers of
+// the program in C.
 
-ghost use Prim.Native.Nat.{_≤_};
+ghost use mathlib.Core.Path.{_≡_};
+ghost use Prim.Native.Nat.{_+_, _*_, _≤_};
 ghost use Rattle.io.specs.Counts.{Counts};
+ghost use Rattle.wire.specs.declared.verdict.Verdict.the-variants.{Accepted};
+ghost use Rattle.message.specs.Reading.{noHead};
+ghost use Rattle.bench.specs.Form.{pairAt, countIn, typeRowAt, tableIn, expectedIn, headerIn};
 use message::header::Header;
 use message::id::ClientId;
 use message::id::MethodId;
@@ -21,18 +26,23 @@ use wire::number;
 use wire::verdict::Verdict;
 
 // A byte as a number of rows or of bytes.
-fn wide(x: u8) -> usize {
+fn wide(x: u8) -> usize
+    ensures { λ r. ⌜ r ≡ x ⌝ }
+{
     x as usize
 }
 
 // The number of two bytes.
-fn pair(high: u8, low: u8) -> u16 {
+fn pair(high: u8, low: u8) -> u16
+    ensures { λ r. ⌜ r ≡ high * 256 + low ⌝ }
+{
     high as u16 * 256 + low as u16
 }
 
 // The number of the two bytes at a place.
 fn two_at(b: &[u8; 4096], at: usize) -> u16
     requires { ⌜ at ≤ 4000 ⌝ }
+    ensures { λ r. ⌜ r ≡ pairAt at (now (b .entry)) ⌝ }
 {
     pair(b[at], b[at + 1])
 }
@@ -46,7 +56,7 @@ fn eight_at(b: &[u8; 4096], at: usize) -> u64
 
 // The number of type rows, and of lent rows: 64 at most.
 pub fn count(b: &[u8; 4096]) -> usize
-    ensures { λ r. ⌜ r ≤ 64 ⌝ }
+    ensures { λ r. ⌜ (r ≡ countIn (now (b .entry))) × (r ≤ 64) ⌝ }
 {
     let n = wide(b[1]);
     if n < 64 {
@@ -56,23 +66,30 @@ pub fn count(b: &[u8; 4096]) -> usize
 }
 
 // How often to read or write.
-pub fn repeats(b: &[u8; 4096]) -> usize {
+pub fn repeats(b: &[u8; 4096]) -> usize
+    ensures { λ r. ⌜ r ≡ pairAt 16 (now (b .entry)) ⌝ }
+{
     two_at(b, 16) as usize
 }
 
 // The bytes of the datagram, or of the content to write from.
-pub fn size(b: &[u8; 4096]) -> usize {
+pub fn size(b: &[u8; 4096]) -> usize
+    ensures { λ r. ⌜ r ≡ pairAt 18 (now (b .entry)) ⌝ }
+{
     two_at(b, 18) as usize
 }
 
 // The bytes of the output.
-pub fn room(b: &[u8; 4096]) -> usize {
+pub fn room(b: &[u8; 4096]) -> usize
+    ensures { λ r. ⌜ r ≡ pairAt 20 (now (b .entry)) ⌝ }
+{
     two_at(b, 20) as usize
 }
 
 // The type row at a place.
 fn type_row(b: &[u8; 4096], at: usize) -> TypeRow
     requires { ⌜ at ≤ 1024 ⌝ }
+    ensures { λ r. ⌜ r ≡ typeRowAt at (now (b .entry)) ⌝ }
 {
     TypeRow {
         level: b[at],
@@ -84,7 +101,9 @@ fn type_row(b: &[u8; 4096], at: usize) -> TypeRow
 }
 
 // The type table.
-pub fn table(b: &[u8; 4096]) -> Table {
+pub fn table(b: &[u8; 4096]) -> Table
+    ensures { λ r. ⌜ r ≡ tableIn (now (b .entry)) ⌝ }
+{
     let mut rows = [type_row(b, 24); 64];
     let mut i: usize = 0;
     while i < 64 {
@@ -100,7 +119,9 @@ pub fn table(b: &[u8; 4096]) -> Table {
 }
 
 // What is expected of the message to read.
-pub fn expected(b: &[u8; 4096]) -> Expected {
+pub fn expected(b: &[u8; 4096]) -> Expected
+    ensures { λ r. ⌜ r ≡ expectedIn (now (b .entry)) ⌝ }
+{
     Expected {
         service: ServiceId(two_at(b, 4)),
         method: MethodId(two_at(b, 6)),
@@ -110,7 +131,9 @@ pub fn expected(b: &[u8; 4096]) -> Expected {
 }
 
 // The header of the message to write.
-pub fn header(b: &[u8; 4096]) -> Header {
+pub fn header(b: &[u8; 4096]) -> Header
+    ensures { λ r. ⌜ r ≡ headerIn (now (b .entry)) ⌝ }
+{
     Header {
         service: ServiceId(two_at(b, 4)),
         method: MethodId(two_at(b, 6)),
@@ -157,7 +180,9 @@ pub fn rows(b: &[u8; 4096]) -> [Row; 64] {
 }
 
 // An answer before the first.
-pub fn nothing() -> Answered {
+pub fn nothing() -> Answered
+    ensures { λ r. ⌜ r ≡ record { head = noHead; verdict = Accepted; place = 0; skipped = 0 } ⌝ }
+{
     let none = Part { at: 0, len: 0 };
     Answered {
         head: Head {
@@ -174,7 +199,9 @@ pub fn nothing() -> Answered {
 }
 
 // The same of a writing.
-pub fn unwritten() -> Written {
+pub fn unwritten() -> Written
+    ensures { λ r. ⌜ r ≡ record { verdict = Accepted; len = 0 } ⌝ }
+{
     Written {
         verdict: Verdict::Accepted,
         len: 0,

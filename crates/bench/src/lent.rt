@@ -1,4 +1,4 @@
-// Messages read into lent rows, and written from them.
+// Messages read into lent rows, and written from them, for this program alone.
 
 ghost use Prim.Native.Nat.{_≤_};
 use super::show;
@@ -27,7 +27,7 @@ pub fn read_often(
     rows
 }
 
-// Writes the message of the first n of the rows as often as is left, and gives the last answer.
+// Writes the message of the first n of the rows as often as is left, and gives the last answer. The program's count of rows is never over 64.
 pub fn write_often(
     h: Header,
     rows: [Row; 64],

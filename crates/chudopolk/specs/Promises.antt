@@ -47,6 +47,8 @@ pub record TableKept (form : Form) (numbers : List ℕ) : Type 0 where
   pub mark-in : form .fixed ≤ 1
   pub numbers-in : 5 * form .count ≤ length numbers
   pub count-is : tableOf form numbers .count ≡ form .count
+  pub width-is : tableOf form numbers .width ≡ form .width
+  pub fixed-is : tableOf form numbers .fixed ≡ eqb (form .fixed) 1
   pub each-row : (i : ℕ) → i < form .count → RowKept numbers i (typeAt (typeRows (tableOf form numbers)) i)
 
 -- C1. A table that is accepted has the caller's numbers: none was cut, none was missing, and the marks are 0 or 1. So every wild number, short

@@ -66,7 +66,7 @@ fn put_row(out: &mut [u64], at: usize, n: Numbers)
     out[at + 3] = n.len;
 }
 
-// Stores the numbers of the first n rows over the first of the lent ones; those beyond stay.
+// Stores the numbers of the first n rows over the first of the lent ones; those beyond stay. For this crate's own reading.
 pub fn put_rows(out: &mut [u64], rows: [Row; 64], n: usize)
     requires { ⌜ (n ≤ 64) × (length rows ≡ 64) × (4 * n ≤ length (now out)) ⌝ }
     ensures { λ _. ⌜ now (out .exit) ≡ flat (take n rows) ++ drop (4 * n) (now (out .entry)) ⌝ }

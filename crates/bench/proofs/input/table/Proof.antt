@@ -1,14 +1,27 @@
--- `input::table` is safe and ends. The loop's invariant: i is at most 64, and the array has kept its length.
+-- `bench::input::table` meets its contract. The loop's invariant: the first i rows are there.
 -- Assumes nothing.
+use mathlib.Core.Path.{_≡_, ap, _∙_}
+use Prim.Native.Nat.{ℕ, _+_, _*_, _-_, _≤_}
+use native.Mathlib.Numerals.{add-one}
+use native.Mathlib.Omega.{arith}
+use mathlib.Core.List.{List}
+use lib.ListN.{length, set}
 use borrow.Author.Needs.{needs}
-use Prim.Native.Nat.{_≤_, _-_}
-use lib.ListN.{length}
-use mathlib.Core.Path.{_≡_}
+use Rattle.payload.specs.declared.table.TypeRow.{TypeRow}
+use Rattle.bench.specs.Form.{typeRowAt, typeRowsIn}
 use Rattle.bench.proofs.input.table.Statement.{statement}
 use Rattle.bench.proofs.input.table.Tie as tie
 
+rows-more : (b : List ℕ) (i : ℕ) (rows : List TypeRow) (r : TypeRow) → rows ≡ typeRowsIn i b → r ≡ typeRowAt (24 + 6 * i) b
+    → set rows i r ≡ typeRowsIn (i + 1) b
+unfolding typeRowsIn
+rows-more b i rows r e d = rw (e, d, add-one i)
+
+rows-all : (b : List ℕ) (i : ℕ) (rows : List TypeRow) → i ≤ 64 → 64 ≤ i → rows ≡ typeRowsIn i b → rows ≡ typeRowsIn 64 b
+rows-all b i rows l h e = e ∙ ap (λ (n : ℕ). typeRowsIn n b) (omega arith)
+
 abbrev Inv-loop : tie.InvT-loop
-Inv-loop b rows₀ i₀ rows i = (i ≤ 64) × (length rows ≡ 64)
+Inv-loop b rows₀ i₀ rows i = (i ≤ 64) × (length rows ≡ 64) × (rows ≡ typeRowsIn i b)
 
 abbrev μ-loop : tie.MeasureT-loop
 μ-loop b rows₀ i₀ rows i = 64 - i
@@ -17,7 +30,8 @@ type-row-requires : tie.Need-type-row-requires Inv-loop μ-loop
 type-row-requires c κs = search needs
 
 loop-holds : tie.Need-loop-holds Inv-loop μ-loop
-loop-holds c = search needs
+unfolding typeRowsIn
+loop-holds c = (search needs, search needs, rw (c .type-row .ensures))
 
 mul-type-row : tie.Need-mul-type-row Inv-loop μ-loop
 mul-type-row c = search needs
@@ -41,7 +55,7 @@ loop-less : tie.Need-loop-less Inv-loop μ-loop
 loop-less c = search needs
 
 loop-again : tie.Need-loop-again Inv-loop μ-loop
-loop-again c = search needs
+loop-again c = (search needs, search needs, rows-more _ _ _ _ (c .before .before .loop .inv .2) (c .type-row2 .ensures))
 
 count-requires : tie.Need-count-requires Inv-loop μ-loop
 count-requires c κs = search needs
@@ -56,7 +70,9 @@ element-copy-out-t20 : tie.Need-element-copy-out-t20 Inv-loop μ-loop
 element-copy-out-t20 c = search needs
 
 returns : tie.Need-returns Inv-loop μ-loop
-returns c = search needs
+returns c =
+    let l = c .before .before .before .before .before .loop in
+    rw (rows-all _ _ _ (l .inv .0) (c .before .before .before .before .loop-test .left) (l .inv .2), c .before .before .before .count .ensures .0, c .before .wide .ensures)
 
 pub table-spec : {M : Type 1} → statement M
 table-spec =
