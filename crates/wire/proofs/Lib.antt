@@ -1,5 +1,8 @@
 pub mod ChooseLaws
 pub mod NumberLaws
+pub mod PartLaws
+pub mod StoreLaws
+pub mod FieldLaws
 pub mod FloatLaws
 pub mod TagLaws
 pub mod KindLaws

@@ -1,5 +1,7 @@
 pub mod Choose
 pub mod Number
+pub mod Part
+pub mod Header
 pub mod Tag
 pub mod Kind
 pub mod Text

@@ -1,9 +1,9 @@
--- `message::read::two_at` meets its contract.
+-- `wire::header::two_at` meets its contract.
 -- Assumes nothing.
-use Rattle.message.specs.Header.{fieldAt}
+use Rattle.wire.specs.Header.{fieldAt}
 use borrow.Author.Needs.{needs}
-use Rattle.message.proofs.read.two_at.Statement.{statement}
-use Rattle.message.proofs.read.two_at.Tie as tie
+use Rattle.wire.proofs.header.two_at.Statement.{statement}
+use Rattle.wire.proofs.header.two_at.Tie as tie
 
 read-number-requires : tie.Need-read-number-requires
 read-number-requires c κs = search needs

@@ -1,4 +1,4 @@
--- Parts of a datagram as the code cuts them: from a place to an end.
+-- Parts of lent bytes as the code cuts them: from a place to an end.
 -- Assumes nothing.
 use mathlib.Core.Path.{_≡_, refl, sym, ap, _∙_}
 use Prim.Native.Nat.{ℕ, zero, suc, _+_, _-_, _≤_, _<_}
@@ -7,8 +7,8 @@ use mathlib.Core.List.{List, [], _∷_}
 use lib.ListN.{length, take, drop}
 use lib.Seq.{slice, take-nil}
 use borrow.Author.Tests.{le-leb, lt-leb}
-use Rattle.message.specs.declared.part.Part.{Part}
-use Rattle.message.specs.Part.{partOf}
+use Rattle.wire.specs.declared.part.Part.{Part}
+use Rattle.wire.specs.Part.{partOf}
 
 take-drop : (a m : ℕ) (l : List ℕ) → take m (drop a l) ≡ slice a (a + m) l
 take-drop zero m l = let e : 0 + m ≡ m = omega arith in rw e
@@ -19,7 +19,7 @@ pub cut-slice : (a e : ℕ) (l : List ℕ) → a ≤ e → take (e - a) (drop a 
 cut-slice a e l h = let s : a + (e - a) ≡ e = omega arith in take-drop a (e - a) l ∙ rw s
 
 module _ (d : List ℕ) (p : Part) where
-  -- a part that lies in the datagram
+  -- a part that lies in what was lent
   pub part-inside : p .at + p .len ≤ length d → partOf d p ≡ slice (p .at) (p .at + p .len) d
   unfolding partOf
   part-inside h = rw (le-leb (p .at + p .len) (length d) h)

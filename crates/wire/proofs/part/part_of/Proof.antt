@@ -1,11 +1,11 @@
--- `message::part::part_of` meets its contract for every part.
+-- `wire::part::part_of` meets its contract for every part.
 -- Assumes nothing.
 use mathlib.Core.Path.{sym}
 use native.Mathlib.Omega.{arith}
-use Rattle.message.proofs.Slices.{part-outside, cut-part}
+use Rattle.wire.proofs.PartLaws.{part-outside, cut-part}
 use borrow.Author.Needs.{needs}
-use Rattle.message.proofs.part.part_of.Statement.{statement}
-use Rattle.message.proofs.part.part_of.Tie as tie
+use Rattle.wire.proofs.part.part_of.Statement.{statement}
+use Rattle.wire.proofs.part.part_of.Tie as tie
 
 sub-result : tie.Need-sub-result
 sub-result c = search needs

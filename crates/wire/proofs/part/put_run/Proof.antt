@@ -1,4 +1,4 @@
--- `payload::emit::put_run` meets its contract. The loop's invariant: the first `i` bytes of the run are stored, and the output is as long as
+-- `wire::part::put_run` meets its contract. The loop's invariant: the first `i` bytes of the run are stored, and the output is as long as
 -- it was. The measure is what is left of the run.
 -- Assumes nothing.
 use mathlib.Core.Path.{_≡_, refl}
@@ -7,16 +7,16 @@ use native.Mathlib.Omega.{arith}
 use borrow.Author.Needs.{needs}
 use lib.ListN.{length, length-set}
 use lib.Seq.{sets}
-use Rattle.payload.specs.Judging.{runOf}
-use Rattle.payload.proofs.Writing.StoreLaws.{run-store}
-use Rattle.payload.proofs.emit.put_run.Statement.{statement}
-use Rattle.payload.proofs.emit.put_run.Tie as tie
+use Rattle.wire.specs.Part.{runOf}
+use Rattle.wire.proofs.StoreLaws.{run-store}
+use Rattle.wire.proofs.part.put_run.Statement.{statement}
+use Rattle.wire.proofs.part.put_run.Tie as tie
 
 abbrev Inv-loop : tie.InvT-loop
-Inv-loop out₀ at content place len i₀ out i = (i ≤ len) × (out ≡ sets out₀ at (runOf content place i)) × (length out ≡ length out₀)
+Inv-loop out₀ at from place len i₀ out i = (i ≤ len) × (out ≡ sets out₀ at (runOf from place i)) × (length out ≡ length out₀)
 
 abbrev μ-loop : tie.MeasureT-loop
-μ-loop out₀ at content place len i₀ out i = len - i
+μ-loop out₀ at from place len i₀ out i = len - i
 
 loop-holds : tie.Need-loop-holds Inv-loop μ-loop
 loop-holds c = (search needs, refl, refl)
@@ -44,7 +44,7 @@ loop-again c =
     let a = c .before .before .before .args in
     let t = c .before .before .loop in (
       omega arith,
-      rw (t .inv .1) (run-store (a .out .now) (a .content .now) (a .at) (a .place) (t .i) (omega arith)),
+      rw (t .inv .1) (run-store (a .out .now) (a .from .now) (a .at) (a .place) (t .i) (omega arith)),
       rw length-set (t .inv .2),
     )
 
