@@ -1,0 +1,7 @@
+pub mod Verdict
+pub mod Form
+pub mod Records
+pub mod Adding
+pub mod Opening
+pub mod Finding
+pub mod Walking

@@ -1,0 +1,83 @@
+// Records of messages, and the one walk over them.
+
+ghost use mathlib.Core.Path.{_≡_};
+ghost use Prim.Native.Nat.{_≤_};
+ghost use lib.ListN.{length};
+ghost use lib.Seq.{slice};
+ghost use Rattle.archive.specs.Form.{messageFits};
+ghost use Rattle.archive.specs.Records.{messagesTo};
+ghost use Rattle.archive.specs.Walking.{cutSize, walkedFrom};
+use super::form;
+use wire::header;
+use wire::number;
+
+// The most bytes of a message: a record's length is sixteen bits.
+pub const MESSAGE_MOST: usize = 65535;
+
+// Whether bytes are whole records of messages, and how many; 0 where they aren't.
+pub struct Walked {
+    pub whole: bool,
+    pub count: usize,
+}
+
+// Whether bytes are a message: 16 to 65,535 bytes whose Length is their number less 8.
+pub fn is_message(m: &[u8]) -> bool
+    ensures { λ r. ⌜ r ≡ messageFits (now (m .entry)) ⌝ }
+{
+    let len = m.len();
+    if len < header::LEN {
+        return false;
+    }
+    if MESSAGE_MOST < len {
+        return false;
+    }
+    number::read_number(m, header::LENGTH_AT, 4) == (len - 8) as u64
+}
+
+// The size of the record that stands at `at`, before `end`; 0 where none of a message does. For this crate's own walks.
+pub fn record_at(file: &[u8], at: usize, end: usize) -> usize
+    requires { ⌜ (at ≤ end) × (end ≤ length (now file)) ⌝ }
+    ensures { λ r. ⌜ r ≡ cutSize (slice at end (now (file .entry))) ⌝ }
+{
+    if end - at < form::LENGTH_LEN {
+        return 0;
+    }
+    let n = header::two_at(file, at) as usize;
+    let from = at + form::LENGTH_LEN;
+    if end - from < n {
+        return 0;
+    }
+    if !is_message(&file[from..from + n]) {
+        return 0;
+    }
+    form::LENGTH_LEN + n
+}
+
+// Walks over the records that the first `size` bytes of a file should be.
+pub fn walk(file: &[u8], size: usize) -> Walked
+    ensures { λ r. ⌜ r ≡ walkedFrom 0 (messagesTo (now (file .entry)) size) ⌝ }
+{
+    if file.len() < size {
+        return Walked {
+            whole: false,
+            count: 0,
+        };
+    }
+    let mut at: usize = 0;
+    let mut n: usize = 0;
+    while at < size {
+        let k = record_at(file, at, size);
+        if k == 0 {
+            return Walked {
+                whole: false,
+                count: 0,
+            };
+        }
+        at += k;
+        n += 1;
+    }
+    Walked {
+        whole: true,
+        count: n,
+    }
+}
