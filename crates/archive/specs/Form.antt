@@ -1,6 +1,7 @@
 -- The form of an archive (document 02, Five): records, index entries in record order, the trailer. All numbers are big-endian.
 use Prim.Native.Nat.{ℕ, _+_, _-_, _*_}
-use mathlib.Core.Bool.{Bool}
+use mathlib.Core.Path.{_≡_}
+use mathlib.Core.Bool.{Bool, true}
 use mathlib.Core.Option.{Option, none, some}
 use mathlib.Core.List.{List, [], _∷_, _++_}
 use lib.ListN.{length}
@@ -45,6 +46,11 @@ messageMost = 65535
 
 unfoldable pub messageFits : List ℕ → Bool
 messageFits m = and (leb headerLen (length m)) (and (leb (length m) messageMost) (eqb (lengthOf m) (length m - 8)))
+
+-- each of a list is a message
+abbrev pub AreMessages : List (List ℕ) → Type 0
+AreMessages [] = Unit {0}
+AreMessages (m ∷ ms) = (messageFits m ≡ true) × AreMessages ms
 
 -- a record: two bytes of length, then the message
 unfoldable pub recordBytes : List ℕ → List ℕ
