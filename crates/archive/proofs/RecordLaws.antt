@@ -1,0 +1,212 @@
+-- Whole records: what was put together is cut as it was, and what was cut was put together so.
+-- Assumes nothing.
+use mathlib.Core.Path.{_≡_, refl, sym, ap, subst, _∙_}
+use Prim.Native.Nat.{ℕ, zero, suc, _+_, _-_, _*_, _^_, _≤_, _<_}
+use native.Mathlib.Omega.{arith}
+use mathlib.Core.Bool.{Bool, true, false}
+use mathlib.Core.Option.{Option, none, some, Option·none-ne-some, Option·some-injective}
+use mathlib.Core.List.{List, [], _∷_, _++_}
+use lib.ListN.{length, getD, take, drop, length-append, length-drop, take-append-drop}
+use lib.Seq.{slice, length-take-le, take-append-le, take-at, drop-at, take-length, take-add}
+use lib.Dec.{leb, eqb}
+use borrow.Author.Tests.{le-leb, leb-true, eqb-true}
+use Rattle.wire.specs.Choose.{pick, and}
+use Rattle.wire.specs.Number.{AreBytes, big, numberOf, numberBytes}
+use Rattle.wire.specs.Header.{fieldAt, headerLen, lengthOf}
+use Rattle.wire.proofs.ChooseLaws.{and-left, and-right}
+use Rattle.wire.proofs.NumberLaws.{length-numberBytes, number-back, bytes-back, bytes-take, bytes-right}
+use Rattle.archive.specs.declared.form.Form.{Form}
+use Rattle.archive.specs.Form.{
+  offsetWidth,
+  entrySize,
+  messageFits,
+  messageMost,
+  AreMessages,
+  recordBytes,
+  recordSize,
+  recordsBytes,
+  entryBytes,
+  indexBytes,
+  trailerLen,
+  trailerBytes,
+  closingBytes,
+  fileOf,
+  fileSize,
+}
+use Rattle.archive.specs.Records.{lengthIn, messageIn, recordFits, before, cutAll, messagesIn}
+
+-- ---- sizes
+
+pub length-record : (m : List ℕ) → length (recordBytes m) ≡ recordSize m
+unfolding recordBytes
+length-record m = rw (length-append (numberBytes big 2 (length m)) m, length-numberBytes 2 (length m))
+
+pub length-entry : (f : Form) (at : ℕ) (m : List ℕ) → length (entryBytes f at m) ≡ entrySize f
+unfolding entryBytes
+length-entry f at m = rw (length-append (numberBytes big (offsetWidth f) at), length-numberBytes (offsetWidth f) at, length-numberBytes)
+
+pub length-index : (f : Form) (at : ℕ) (ms : List (List ℕ)) → length (indexBytes f at ms) ≡ entrySize f * length ms
+unfolding indexBytes
+length-index f at [] = omega arith
+length-index f at (m ∷ ms) =
+    rw (length-append (entryBytes f at m), length-entry f at m, length-index f (at + recordSize m) ms) (omega arith)
+
+pub length-trailer : (f : Form) (at n : ℕ) → length (trailerBytes f at n) ≡ trailerLen
+unfolding trailerBytes numberBytes
+length-trailer f at n = refl
+
+pub length-closing : (f : Form) (ms : List (List ℕ)) → length (closingBytes f ms) ≡ entrySize f * length ms + trailerLen
+unfolding closingBytes
+length-closing f ms = rw (length-append (indexBytes f 0 ms), length-index f 0 ms, length-trailer)
+
+pub length-file : (f : Form) (ms : List (List ℕ)) → length (fileOf f ms) ≡ fileSize f (length (recordsBytes ms)) (length ms)
+unfolding fileOf
+length-file f ms = rw (length-append (recordsBytes ms), length-closing f ms) (omega arith)
+
+-- ---- a message
+
+module _ (m : List ℕ) (h : messageFits m ≡ true) where
+  pub message-least : 16 ≤ length m
+  unfolding messageFits
+  message-least = leb-true headerLen (length m) (and-left _ _ h)
+
+  pub message-most : length m ≤ messageMost
+  unfolding messageFits
+  message-most = leb-true (length m) messageMost (and-left _ _ (and-right (leb headerLen (length m)) _ h))
+
+-- ---- one record
+
+-- one turn
+pub cut-step : (turns : ℕ) (bytes : List ℕ) → 0 < length bytes
+    → cutAll (suc turns) bytes
+    ≡ pick (recordFits bytes) (before (messageIn bytes) (cutAll turns (drop (2 + lengthIn bytes) bytes))) none
+unfolding cutAll
+cut-step turns [] h = absurd (omega arith)
+cut-step turns (x ∷ xs) h = refl
+
+pub cut-nothing : (turns : ℕ) → cutAll turns [] ≡ some []
+unfolding cutAll
+cut-nothing zero = refl
+cut-nothing (suc turns) = refl
+
+module _ (m rest : List ℕ) (h : messageFits m ≡ true) where
+  length-back : lengthIn (recordBytes m ++ rest) ≡ length m
+  unfolding recordBytes numberBytes fieldAt
+  length-back = number-back 2 (length m) (omega (arith, message-most m h))
+
+  behind-length : drop 2 (recordBytes m ++ rest) ≡ m ++ rest
+  unfolding recordBytes numberBytes
+  behind-length = refl
+
+  message-back : messageIn (recordBytes m ++ rest) ≡ m
+  message-back = rw (length-back, behind-length) (take-at m rest (length m) refl)
+
+  fits-back : recordFits (recordBytes m ++ rest) ≡ true
+  unfolding recordFits
+  fits-back =
+      rw (
+        message-back,
+        length-back,
+        h,
+        le-leb (2 + length m) (length (recordBytes m ++ rest)) (omega (arith, length-append (recordBytes m) rest, length-record m)),
+      )
+
+  rest-back : drop (2 + lengthIn (recordBytes m ++ rest)) (recordBytes m ++ rest) ≡ rest
+  rest-back = drop-at (recordBytes m) rest _ (length-record m ∙ ap (λ n. 2 + n) (sym length-back))
+
+  -- a record before other bytes
+  pub cut-record : (turns : ℕ) → cutAll (suc turns) (recordBytes m ++ rest) ≡ before m (cutAll turns rest)
+  cut-record turns =
+      let some-bytes : 0 < length (recordBytes m ++ rest) = omega (arith, length-append (recordBytes m) rest, length-record m) in
+      rw (cut-step turns (recordBytes m ++ rest) some-bytes, fits-back, message-back, rest-back)
+
+-- ---- all records
+
+-- More turns than bytes change nothing.
+pub turns-enough : (t u : ℕ) (bytes : List ℕ) → length bytes ≤ t → length bytes ≤ u → cutAll t bytes ≡ cutAll u bytes
+turns-enough zero u [] h k = cut-nothing 0 ∙ sym (cut-nothing u)
+turns-enough zero u (x ∷ xs) h k = absurd (omega arith)
+turns-enough (suc t) zero [] h k = cut-nothing (suc t) ∙ sym (cut-nothing 0)
+turns-enough (suc t) zero (x ∷ xs) h k = absurd (omega arith)
+turns-enough (suc t) (suc u) [] h k = cut-nothing (suc t) ∙ sym (cut-nothing (suc u))
+turns-enough (suc t) (suc u) (x ∷ xs) h k =
+    let rest = drop (2 + lengthIn (x ∷ xs)) (x ∷ xs) in
+    let shorter : length rest + 1 ≤ length (x ∷ xs) = omega (arith, length-drop (2 + lengthIn (x ∷ xs)) (x ∷ xs)) in
+    rw (
+      cut-step t (x ∷ xs) (omega arith),
+      cut-step u (x ∷ xs) (omega arith),
+      turns-enough t u rest (omega arith) (omega arith),
+    )
+
+-- Records of messages are cut as they were put together.
+pub cut-back : (ms : List (List ℕ)) → AreMessages ms → messagesIn (recordsBytes ms) ≡ some ms
+unfolding recordsBytes
+cut-back [] a = cut-nothing 0
+cut-back (m ∷ ms) a = go (length (recordBytes m ++ recordsBytes ms)) (length-append (recordBytes m) (recordsBytes ms)) (cut-back ms (a .1))
+  where
+    go : (n : ℕ) → n ≡ length (recordBytes m) + length (recordsBytes ms) → messagesIn (recordsBytes ms) ≡ some ms
+        → cutAll n (recordBytes m ++ recordsBytes ms) ≡ some (m ∷ ms)
+    go zero e back = absurd (omega (arith, length-record m))
+    go (suc n) e back =
+        rw (
+          cut-record m (recordsBytes ms) (a .0) n,
+          turns-enough n (length (recordsBytes ms)) (recordsBytes ms) (omega (arith, length-record m)) (omega arith),
+          back,
+        )
+
+-- ---- and back
+
+-- a record that fits is the message in it
+module _ (bytes : List ℕ) (bs : AreBytes bytes) (h : recordFits bytes ≡ true) where
+  record-whole : 2 + lengthIn bytes ≤ length bytes
+  unfolding recordFits
+  record-whole = leb-true _ _ (and-left _ _ h)
+
+  pub record-message : messageFits (messageIn bytes) ≡ true
+  unfolding recordFits
+  record-message = and-right (leb (2 + lengthIn bytes) (length bytes)) _ h
+
+  message-length : length (messageIn bytes) ≡ lengthIn bytes
+  message-length = length-take-le (lengthIn bytes) (drop 2 bytes) (omega (arith, record-whole, length-drop 2 bytes))
+
+  length-bytes : numberBytes big 2 (lengthIn bytes) ≡ take 2 bytes
+  unfolding fieldAt
+  length-bytes =
+      let two : length (take 2 bytes) ≡ 2 = length-take-le 2 bytes (omega (arith, record-whole)) in
+      rw two at (bytes-back (take 2 bytes) (bytes-take 2 bytes bs))
+
+  record-is : recordBytes (messageIn bytes) ≡ take (2 + lengthIn bytes) bytes
+  unfolding recordBytes
+  record-is = rw (message-length, length-bytes) (sym (take-add 2 (lengthIn bytes) bytes))
+
+  pub record-first : bytes ≡ recordBytes (messageIn bytes) ++ drop (2 + lengthIn bytes) bytes
+  record-first = sym (ap (λ xs. xs ++ drop (2 + lengthIn bytes) bytes) record-is ∙ take-append-drop (2 + lengthIn bytes) bytes)
+
+bytes-drop : (n : ℕ) (xs : List ℕ) → AreBytes xs → AreBytes (drop n xs)
+bytes-drop n xs b = bytes-right (take n xs) (drop n xs) (rw (take-append-drop n xs) b)
+
+-- Bytes that were cut are the records of the messages.
+cut-all : (turns : ℕ) (bytes : List ℕ) (ms : List (List ℕ)) → AreBytes bytes → cutAll turns bytes ≡ some ms
+    → (bytes ≡ recordsBytes ms) × AreMessages ms
+unfolding cutAll recordsBytes
+cut-all zero [] ms b e = subst (λ x. ([] ≡ recordsBytes x) × AreMessages x) (Option·some-injective [] ms e) (refl, tt)
+cut-all zero (x ∷ xs) ms b e = absurd (Option·none-ne-some ms e)
+cut-all (suc turns) [] ms b e = subst (λ x. ([] ≡ recordsBytes x) × AreMessages x) (Option·some-injective [] ms e) (refl, tt)
+cut-all (suc turns) (x ∷ xs) ms b e =
+    go (recordFits (x ∷ xs)) (cutAll turns rest) refl (λ more. cut-all turns rest more (bytes-drop (2 + lengthIn (x ∷ xs)) (x ∷ xs) b)) e
+  where
+    rest : List ℕ
+    rest = drop (2 + lengthIn (x ∷ xs)) (x ∷ xs)
+
+    go : (c : Bool) (r : Option (List (List ℕ))) → recordFits (x ∷ xs) ≡ c
+        → ((more : List (List ℕ)) → r ≡ some more → (rest ≡ recordsBytes more) × AreMessages more)
+        → pick c (before (messageIn (x ∷ xs)) r) none ≡ some ms → ((x ∷ xs) ≡ recordsBytes ms) × AreMessages ms
+    go false r ec ih q = absurd (Option·none-ne-some ms q)
+    go true none ec ih q = absurd (Option·none-ne-some ms q)
+    go true (some more) ec ih q =
+        let w = ih more refl in
+        subst (λ l. ((x ∷ xs) ≡ recordsBytes l) × AreMessages l) (Option·some-injective _ ms q)
+        (record-first (x ∷ xs) b ec ∙ ap (λ l. recordBytes (messageIn (x ∷ xs)) ++ l) (w .0), (record-message (x ∷ xs) b ec, w .1))
+
+pub cut-is : (bytes : List ℕ) (ms : List (List ℕ)) → AreBytes bytes → messagesIn bytes ≡ some ms → (bytes ≡ recordsBytes ms) × AreMessages ms
+cut-is bytes ms b e = cut-all (length bytes) bytes ms b e
