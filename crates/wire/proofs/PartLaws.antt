@@ -10,7 +10,8 @@ use borrow.Author.Tests.{le-leb, lt-leb}
 use Rattle.wire.specs.declared.part.Part.{Part}
 use Rattle.wire.specs.Part.{partOf}
 
-take-drop : (a m : ℕ) (l : List ℕ) → take m (drop a l) ≡ slice a (a + m) l
+-- so many bytes from a place on are a slice
+pub take-drop : (a m : ℕ) (l : List ℕ) → take m (drop a l) ≡ slice a (a + m) l
 take-drop zero m l = let e : 0 + m ≡ m = omega arith in rw e
 take-drop (suc a) m [] = let e : suc a + m ≡ suc (a + m) = omega arith in rw e (take-nil m)
 take-drop (suc a) m (x ∷ xs) = let e : suc a + m ≡ suc (a + m) = omega arith in rw e (take-drop a m xs)
