@@ -9,7 +9,7 @@ use mathlib.Core.List.{List, [], _∷_, _++_}
 use lib.ListN.{length, getD, take, drop, length-append, length-drop, take-append-drop}
 use lib.Seq.{slice, length-take-le, take-append-le, take-at, drop-at, take-length, take-add}
 use lib.Dec.{leb, eqb}
-use borrow.Author.Tests.{le-leb, leb-true, eqb-true}
+use borrow.Author.Tests.{le-leb, lt-leb, leb-true}
 use Rattle.wire.specs.Choose.{pick, and}
 use Rattle.wire.specs.Number.{AreBytes, big, numberOf, numberBytes}
 use Rattle.wire.specs.Header.{fieldAt, headerLen, lengthOf}
@@ -73,6 +73,19 @@ module _ (m : List ℕ) (h : messageFits m ≡ true) where
   pub message-most : length m ≤ messageMost
   unfolding messageFits
   message-most = leb-true (length m) messageMost (and-left _ _ (and-right (leb headerLen (length m)) _ h))
+
+-- the test, as the code goes
+pub message-short : (m : List ℕ) → length m < headerLen → false ≡ messageFits m
+unfolding messageFits
+message-short m h = rw (lt-leb headerLen (length m) h)
+
+pub message-long : (m : List ℕ) → headerLen ≤ length m → messageMost < length m → false ≡ messageFits m
+unfolding messageFits
+message-long m h k = rw (le-leb headerLen (length m) h, lt-leb (length m) messageMost k)
+
+pub message-by : (m : List ℕ) → headerLen ≤ length m → length m ≤ messageMost → eqb (lengthOf m) (length m - 8) ≡ messageFits m
+unfolding messageFits
+message-by m h k = rw (le-leb headerLen (length m) h, le-leb (length m) messageMost k)
 
 -- ---- one record
 
