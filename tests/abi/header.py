@@ -130,7 +130,7 @@ def source_constants(crates):
     types = re.findall(r"const (\w+): MessageType = MessageType\((\w+)\);", (crates / "message/src/message_type.rt").read_text())
     rows = (crates / "chudopolk/src/rows.rt").read_text()
     shown = re.findall(r"Value::(\w+)\S* => numbered\((\d+),", rows) + re.findall(r"Value::(\w+) \{ place, len \} => Numbers \{\s+what: (\d+),", rows)
-    header_len = number_of(crates / "message/src/header.rt", r"const LEN: usize = (\d+);")
+    header_len = number_of(crates / "wire/src/header.rt", r"const LEN: usize = (\d+);")
     payload_most = number_of(crates / "payload/src/read.rt", r"const PAYLOAD_MOST: usize = (\d+);")
     return {
         "chudopolk_verdict": {"VERDICT_" + snake(name).upper(): int(number) for name, number in verdicts},

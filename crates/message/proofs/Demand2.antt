@@ -9,7 +9,10 @@ use mathlib.Core.List.{List, _++_, append-assoc}
 use lib.ListN.{length, take, drop, length-append}
 use lib.Seq.{take-at, drop-at, take-length}
 use borrow.Author.Tests.{le-ltb}
+use Rattle.wire.specs.Header.{headerLen, serviceOf, methodOf, lengthOf, clientOf, sessionOf, versionOf, interfaceOf, typeOf, codeOf, endOf}
+use Rattle.wire.specs.Part.{part, partOf}
 use Rattle.wire.specs.declared.verdict.Verdict.the-variants.{Accepted}
+use Rattle.wire.proofs.PartLaws.{cut-slice, cut-part}
 use Rattle.payload.specs.declared.table.Table.{Table}
 use Rattle.payload.specs.declared.row.Row.{Row}
 use Rattle.payload.specs.Table.{tableFits}
@@ -19,27 +22,11 @@ use Rattle.payload.specs.Demand2.{Demand2, Handed}
 use Rattle.payload.proofs.Promises.{done-exactly, demand-2}
 use Rattle.message.specs.declared.header.Header.{Header}
 use Rattle.message.specs.MessageType.{isOne}
-use Rattle.message.specs.Header.{
-  headerLen,
-  serviceOf,
-  methodOf,
-  lengthOf,
-  clientOf,
-  sessionOf,
-  versionOf,
-  interfaceOf,
-  typeOf,
-  codeOf,
-  endOf,
-  headerBytes,
-  Fitting,
-}
-use Rattle.message.specs.Part.{part, partOf}
+use Rattle.message.specs.Header.{headerBytes, Fitting}
 use Rattle.message.specs.Reading.{payloadOf, payloadShown, headAt, headed, lengthFails, headerVerdict, headedOf, messageOf}
 use Rattle.message.specs.Writing.{messageBytes, sendingOf}
 use Rattle.message.specs.Promises.{HeaderLaw}
 use Rattle.message.specs.Demand2.{expectedOf, bodyOf, MessageBack, MessageDemand2, MessageDemand2Holds, MessageDemand2Answered}
-use Rattle.message.proofs.Slices.{cut-slice, cut-part}
 use Rattle.message.proofs.HeaderLaws.{verdict-none}
 use Rattle.message.proofs.FieldLaws.{header-law}
 use Rattle.message.proofs.SendLaws.{header-size, message-size}

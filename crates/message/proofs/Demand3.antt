@@ -7,6 +7,8 @@ use native.Mathlib.Omega.{arith}
 use mathlib.Core.Bool.{true}
 use mathlib.Core.List.{List, _++_}
 use lib.ListN.{length}
+use Rattle.wire.specs.Header.{headerLen, clientOf, sessionOf, codeOf, endOf}
+use Rattle.wire.specs.Part.{part, partOf}
 use Rattle.wire.specs.declared.verdict.Verdict.{Verdict}
 use Rattle.wire.specs.declared.verdict.Verdict.the-variants.{Accepted, Missing}
 use Rattle.payload.specs.declared.table.Table.{Table}
@@ -18,8 +20,6 @@ use Rattle.payload.specs.Demand3.{Sent, Arrives}
 use Rattle.payload.proofs.Promises as payload
 use Rattle.message.specs.declared.header.Header.{Header}
 use Rattle.message.specs.MessageType.{isOne}
-use Rattle.message.specs.Header.{headerLen, clientOf, sessionOf, codeOf, endOf}
-use Rattle.message.specs.Part.{part, partOf}
 use Rattle.message.specs.Reading.{payloadShown, headAt, headed, messageOf}
 use Rattle.message.specs.Demand2.{expectedOf}
 use Rattle.message.specs.Demand3.{MessageSent, messageOfMembers, MessageArrives, MessageDemand3Holds, AbsentArrives}

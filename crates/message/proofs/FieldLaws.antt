@@ -1,23 +1,20 @@
 -- The Message Types are the five; each header field is the number of its bytes; and a header's bytes hold each field at its place.
 -- Assumes nothing.
-use mathlib.Core.Path.{_≡_, refl, sym, ap, _∙_}
-use Prim.Native.Nat.{ℕ, suc, _+_, _*_, _^_, _≤_, _<_}
+use mathlib.Core.Path.{_≡_, refl}
+use Prim.Native.Nat.{_+_}
 use native.Mathlib.Omega.{arith}
 use mathlib.Core.Bool.{Bool, true, false}
 use mathlib.Core.Logic.{_⊎_, inl, inr}
-use mathlib.Core.List.{List, [], _∷_, _++_}
-use lib.ListN.{length, getD}
-use lib.Seq.{slice, slice-cons, slice-empty}
 use lib.Dec.{eqb}
 use borrow.Author.Tests.{eqb-true}
 use Rattle.wire.specs.Choose.{or}
-use Rattle.wire.specs.Number.{big, numberOf, numberBytes}
+use Rattle.wire.specs.Number.{numberBytes}
+use Rattle.wire.specs.Header.{fieldAt}
 use Rattle.wire.proofs.NumberLaws.{number-back}
-use Rattle.message.specs.declared.header.Header.{Header}
+use Rattle.wire.proofs.FieldLaws.{byte-field, two-field, four-field}
 use Rattle.message.specs.MessageType.{request, requestNoReturn, notification, response, error, isOne}
-use Rattle.message.specs.Header.{headerLen, fieldAt, headerBytes, Fitting}
+use Rattle.message.specs.Header.{headerBytes}
 use Rattle.message.specs.Promises.{OneOfFive, FieldsByByte, HeaderReadBack}
-use Rattle.message.proofs.HeaderLaws.{byte-field}
 
 -- A number passes the membership test exactly when it is one of the five.
 pub one-law : OneOfFive
@@ -41,33 +38,6 @@ one-law x = (found (eqb x request) (eqb x requestNoReturn) (eqb x notification) 
     back (inr (inr (inr (inr e)))) = rw e
 
 -- ---- fields by byte number
-
-module _ (at : ℕ) (d : List ℕ) where
-  two-field : at + 2 ≤ length d → fieldAt at 2 d ≡ getD d at 0 * 256 + getD d (suc at) 0
-  unfolding fieldAt numberOf
-  two-field h =
-      let s : at + 2 ≡ suc (suc at) = omega arith in
-      rw (
-        s,
-        slice-cons at (suc (suc at)) d 0 (omega arith) (omega arith),
-        slice-cons (suc at) (suc (suc at)) d 0 (omega arith) (omega arith),
-        slice-empty (suc (suc at)) d,
-      ) (omega arith)
-
-  four-field : at + 4 ≤ length d
-      → fieldAt at 4 d ≡ ((getD d at 0 * 256 + getD d (suc at) 0) * 256 + getD d (suc (suc at)) 0) * 256 + getD d (suc (suc (suc at))) 0
-  unfolding fieldAt numberOf
-  four-field h =
-      let end = suc (suc (suc (suc at))) in
-      let s : at + 4 ≡ end = omega arith in
-      rw (
-        s,
-        slice-cons at end d 0 (omega arith) (omega arith),
-        slice-cons (suc at) end d 0 (omega arith) (omega arith),
-        slice-cons (suc (suc at)) end d 0 (omega arith) (omega arith),
-        slice-cons (suc (suc (suc at))) end d 0 (omega arith) (omega arith),
-        slice-empty end d,
-      ) (omega arith)
 
 -- Each field is the number of its bytes.
 pub field-law : FieldsByByte

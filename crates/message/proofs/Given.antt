@@ -10,6 +10,7 @@ use lib.Seq.{take-at}
 use lib.Dec.{ltb}
 use borrow.Author.Tests.{le-ltb, ltb-false}
 use Rattle.wire.specs.Choose.{pick}
+use Rattle.wire.specs.Header.{headerLen}
 use Rattle.wire.specs.declared.verdict.Verdict.{Verdict}
 use Rattle.wire.specs.declared.verdict.Verdict.the-variants.{Accepted, Table as NoTable, Room}
 use Rattle.payload.specs.declared.table.Table.{Table}
@@ -19,7 +20,6 @@ use Rattle.payload.specs.Writing.{Outcome, refused, done, outcomeOf, answerIs, 
 use Rattle.payload.proofs.Promises.{done-exactly}
 use Rattle.message.specs.declared.header.Header.{Header}
 use Rattle.message.specs.MessageType.{isOne}
-use Rattle.message.specs.Header.{headerLen}
 use Rattle.message.specs.Writing.{messageBytes, framed, sendingOf, messageWriting, messageOutput}
 use Rattle.message.proofs.SendLaws.{message-size, part-front}
 

@@ -1,31 +1,23 @@
 -- The header's fields as the code reads them, and the verdicts 12 to 16 in their order.
 -- Assumes nothing.
-use mathlib.Core.Path.{_≡_, refl, sym, ap, _∙_}
-use Prim.Native.Nat.{ℕ, suc, _+_, _*_, _-_, _^_, _≤_, _<_}
+use mathlib.Core.Path.{_≡_, refl, sym, _∙_}
+use Prim.Native.Nat.{ℕ, _+_, _-_, _≤_, _<_}
 use native.Mathlib.Omega.{arith}
 use mathlib.Core.Bool.{Bool, true, false}
 use mathlib.Core.Logic.{_⊎_, inl, inr}
-use mathlib.Core.List.{List, [], _∷_}
+use mathlib.Core.List.{List}
 use lib.ListN.{length, getD}
-use lib.Seq.{slice, slice-cons, slice-empty}
 use lib.Dec.{ltb}
 use borrow.Author.Tests.{lt-ltb, le-ltb, ltb-true, ltb-false, le-leb, lt-leb, eq-eqb, ne-eqb}
 use Rattle.wire.specs.Choose.{or}
-use Rattle.wire.specs.Number.{big, numberOf}
 use Rattle.wire.specs.Verdict.{verdictNumber}
+use Rattle.wire.specs.Header.{fieldAt, serviceOf, methodOf, versionOf, interfaceOf, typeOf, headerLen, protocolVersion}
+use Rattle.wire.specs.Part.{part, noPart}
 use Rattle.wire.specs.declared.verdict.Verdict.{Verdict}
 use Rattle.wire.specs.declared.verdict.Verdict.the-variants.{Accepted, Protocol, Service, Interface, Method, MessageType}
+use Rattle.wire.proofs.FieldLaws.{byte-field}
 use Rattle.message.specs.declared.read.Expected.{Expected}
-use Rattle.message.specs.Header.{fieldAt, serviceOf, methodOf, versionOf, interfaceOf, typeOf, headerLen, protocolVersion}
-use Rattle.message.specs.Part.{part, noPart}
 use Rattle.message.specs.Reading.{lengthFails, headerVerdict, payloadShown}
-
--- a field of one byte is that byte
-pub byte-field : (at : ℕ) (d : List ℕ) → at < length d → fieldAt at 1 d ≡ getD d at 0
-unfolding fieldAt numberOf
-byte-field at d h =
-    let s : at + 1 ≡ suc at = omega arith in
-    rw (s, slice-cons at (suc at) d 0 (omega arith) (omega arith), slice-empty (suc at) d) (omega arith)
 
 -- ---- 11
 

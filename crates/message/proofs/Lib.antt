@@ -1,4 +1,3 @@
-mod Slices
 mod HeaderLaws
 mod FieldLaws
 mod ReadLaws

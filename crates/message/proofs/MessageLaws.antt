@@ -12,7 +12,24 @@ use lib.Dec.{leb, ltb, eqb}
 use borrow.Author.Tests.{lt-ltb, le-ltb, ltb-true, ltb-false, eq-eqb, ne-eqb, eqb-true, eqb-false, leb-true, leb-false, le-leb, lt-leb}
 use Rattle.wire.specs.Choose.{pick, and, or}
 use Rattle.wire.specs.Verdict.{verdictNumber}
+use Rattle.wire.specs.Header.{
+  headerLen,
+  protocolVersion,
+  fieldAt,
+  serviceOf,
+  methodOf,
+  lengthOf,
+  clientOf,
+  sessionOf,
+  versionOf,
+  interfaceOf,
+  typeOf,
+  codeOf,
+  endOf,
+}
+use Rattle.wire.specs.Part.{part, noPart, partOf}
 use Rattle.wire.proofs.ChooseLaws.{and-left, and-right, and-false}
+use Rattle.wire.proofs.PartLaws.{part-inside}
 use Rattle.wire.specs.declared.verdict.Verdict.{Verdict}
 use Rattle.wire.specs.declared.verdict.Verdict.the-variants.{
   Accepted,
@@ -50,25 +67,8 @@ use Rattle.payload.proofs.Promises.{refusal-clears, rows-set, nothing-past, fiv
 use Rattle.message.specs.declared.read.Expected.{Expected}
 use Rattle.message.specs.declared.read.MessageReading.{MessageReading}
 use Rattle.message.specs.MessageType.{isOne}
-use Rattle.message.specs.Header.{
-  headerLen,
-  protocolVersion,
-  fieldAt,
-  serviceOf,
-  methodOf,
-  lengthOf,
-  clientOf,
-  sessionOf,
-  versionOf,
-  interfaceOf,
-  typeOf,
-  codeOf,
-  endOf,
-}
-use Rattle.message.specs.Part.{part, noPart, partOf}
 use Rattle.message.specs.Reading.{payloadOf, payloadShown, headAt, unheaded, headed, lengthFails, headerVerdict, headedOf, messageOf}
 use Rattle.message.specs.Promises.{Asked, Whole, Matches, Exactly, GivenWhen, early, HandedOn, PartsLaw, RowsLaw, butRest, TailIgnored, OneAnswer}
-use Rattle.message.proofs.Slices.{part-inside}
 use Rattle.message.proofs.HeaderLaws.{
   true-false,
   length-fine,

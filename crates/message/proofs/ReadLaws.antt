@@ -10,8 +10,10 @@ use lib.Dec.{eqb}
 use borrow.Author.Tests.{lt-ltb, le-ltb, eq-eqb, ne-eqb, eqb-true, eqb-false}
 use Rattle.wire.specs.Choose.{and}
 use Rattle.wire.specs.Verdict.{verdictNumber}
+use Rattle.wire.specs.Header.{headerLen, lengthOf, endOf}
 use Rattle.wire.specs.declared.verdict.Verdict.{Verdict}
 use Rattle.wire.specs.declared.verdict.Verdict.the-variants.{Table as NoTable, Room, Short, Length}
+use Rattle.wire.proofs.PartLaws.{cut-slice}
 use Rattle.payload.specs.declared.table.Table.{Table}
 use Rattle.payload.specs.declared.read.Reading.{Reading}
 use Rattle.payload.specs.Table.{tableFits}
@@ -23,10 +25,8 @@ use Rattle.message.specs.declared.read.Expected.{Expected}
 use Rattle.message.specs.declared.read.Head.{Head}
 use Rattle.message.specs.declared.read.Opening.{Opening}
 use Rattle.message.specs.MessageType.{isOne}
-use Rattle.message.specs.Header.{headerLen, lengthOf, endOf}
 use Rattle.message.specs.Reading.{payloadOf, headAt, unheaded, headed, lengthFails, headerVerdict, headedOf, messageOf}
 use Rattle.message.specs.Opening.{shutOf, Opened}
-use Rattle.message.proofs.Slices.{cut-slice}
 use Rattle.message.proofs.HeaderLaws.{length-fine}
 
 -- a refusal before the header is looked at

@@ -13,6 +13,7 @@ use borrow.Author.Tests.{lt-ltb, le-ltb, ltb-true, ltb-false}
 use Rattle.wire.specs.Choose.{pick}
 use Rattle.wire.specs.Number.{big, numberBytes}
 use Rattle.wire.specs.Verdict.{verdictNumber}
+use Rattle.wire.specs.Header.{headerLen}
 use Rattle.wire.specs.declared.verdict.Verdict.{Verdict}
 use Rattle.wire.specs.declared.verdict.Verdict.the-variants.{Accepted, Table as NoTable, Room}
 use Rattle.wire.proofs.Promises.{verdicts-differ}
@@ -25,7 +26,7 @@ use Rattle.payload.specs.Promises.{within}
 use Rattle.payload.proofs.Promises.{room-last, done-exactly, write-settled}
 use Rattle.message.specs.declared.header.Header.{Header}
 use Rattle.message.specs.MessageType.{isOne}
-use Rattle.message.specs.Header.{headerLen, headerBytes}
+use Rattle.message.specs.Header.{headerBytes}
 use Rattle.message.specs.Writing.{messageBytes, framed, sendingOf, messageWriting, messageOutput, bodyAt}
 
 -- ---- the header's nine stores

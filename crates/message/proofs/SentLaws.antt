@@ -8,6 +8,7 @@ use mathlib.Core.List.{List, _++_, append-assoc}
 use lib.ListN.{length, drop, getD, List·getD-append}
 use lib.Seq.{length-sets, drop-append-seam, getD-append-add}
 use Rattle.wire.specs.Number.{numberBytes}
+use Rattle.wire.specs.Header.{headerLen}
 use Rattle.wire.specs.declared.verdict.Verdict.the-variants.{Accepted}
 use Rattle.payload.specs.declared.table.Table.{Table}
 use Rattle.payload.specs.declared.row.Row.{Row}
@@ -16,7 +17,7 @@ use Rattle.payload.specs.Writing.{Outcome, refused, done, answerIs, outputIs}
 use Rattle.payload.specs.Settled.{payloadOf}
 use Rattle.payload.proofs.Promises.{done-exactly}
 use Rattle.message.specs.declared.header.Header.{Header}
-use Rattle.message.specs.Header.{headerLen, headerBytes, Fitting}
+use Rattle.message.specs.Header.{headerBytes, Fitting}
 use Rattle.message.specs.Writing.{messageBytes, sendingOf, messageWriting, messageOutput}
 use Rattle.message.specs.Sent.{HeaderPlaces, Sends, SentSettled, OneSending}
 use Rattle.message.proofs.SendLaws.{header-size, message-size, part-front}

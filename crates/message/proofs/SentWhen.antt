@@ -11,6 +11,7 @@ use lib.Dec.{ltb}
 use borrow.Author.Tests.{lt-ltb, ltb-true, ltb-false}
 use Rattle.wire.specs.Choose.{pick}
 use Rattle.wire.specs.Verdict.{verdictNumber}
+use Rattle.wire.specs.Header.{headerLen}
 use Rattle.wire.specs.declared.verdict.Verdict.{Verdict}
 use Rattle.wire.specs.declared.verdict.Verdict.the-variants.{
   Accepted,
@@ -46,7 +47,6 @@ use Rattle.payload.specs.WriteWhen.{WrittenWhen}
 use Rattle.payload.proofs.Promises.{done-exactly, write-verdicts}
 use Rattle.message.specs.declared.header.Header.{Header}
 use Rattle.message.specs.MessageType.{isOne}
-use Rattle.message.specs.Header.{headerLen}
 use Rattle.message.specs.Writing.{messageBytes, framed, sendingOf, messageWriting}
 use Rattle.message.specs.SentWhen.{SentWhen, SentVerdicts}
 use Rattle.message.proofs.SentLaws.{sent-accepts}

@@ -4,6 +4,8 @@ use mathlib.Core.Path.{_≡_}
 use Prim.Native.Nat.{ℕ, _-_, _≤_}
 use mathlib.Core.List.{List, [], _∷_, _++_}
 use lib.ListN.{length, take, drop}
+use Rattle.wire.specs.Header.{headerLen}
+use Rattle.wire.specs.Part.{part, partOf}
 use Rattle.wire.specs.declared.verdict.Verdict.the-variants.{Accepted}
 use Rattle.payload.specs.declared.table.Table.{Table}
 use Rattle.payload.specs.declared.row.Row.{Row}
@@ -15,8 +17,7 @@ use Rattle.message.specs.declared.header.Header.{Header}
 use Rattle.message.specs.declared.read.Expected.{Expected}
 use Rattle.message.specs.declared.read.MessageReading.{MessageReading}
 use Rattle.message.specs.MessageType.{notification}
-use Rattle.message.specs.Header.{headerLen, Fitting}
-use Rattle.message.specs.Part.{part, partOf}
+use Rattle.message.specs.Header.{Fitting}
 use Rattle.message.specs.Reading.{messageOf}
 use Rattle.message.specs.Writing.{messageBytes, sendingOf, messageWriting, messageOutput}
 

@@ -7,6 +7,8 @@ use Prim.Native.Nat.{ℕ, _≤_}
 use mathlib.Core.Bool.{Bool}
 use mathlib.Core.List.{List, [], _++_}
 use lib.ListN.{length, getD}
+use Rattle.wire.specs.Header.{headerLen}
+use Rattle.wire.specs.Part.{part, partOf}
 use Rattle.payload.specs.declared.table.Table.{Table}
 use Rattle.payload.specs.declared.row.Row.{Row}
 use Rattle.payload.specs.declared.row.Value.the-variants.{Absent}
@@ -21,8 +23,7 @@ use Rattle.payload.specs.Demand3.{TwoTables, Reordered, writtenAt, Arrives}
 use Rattle.payload.specs.Demand3Cases.{writerTable, readerTable, writtenRows, otherOrder, otherBytes}
 use Rattle.message.specs.declared.header.Header.{Header}
 use Rattle.message.specs.declared.read.MessageReading.{MessageReading}
-use Rattle.message.specs.Header.{headerLen, Fitting}
-use Rattle.message.specs.Part.{part, partOf}
+use Rattle.message.specs.Header.{Fitting}
 use Rattle.message.specs.Reading.{messageOf}
 use Rattle.message.specs.Writing.{messageBytes, sendingOf}
 use Rattle.message.specs.Demand2.{expectedOf, headerW}

@@ -1,6 +1,5 @@
 pub mod MessageType
 pub mod Header
-pub mod Part
 pub mod Reading
 pub mod Opening
 pub mod Rows

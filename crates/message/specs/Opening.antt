@@ -5,6 +5,7 @@ use mathlib.Core.List.{List}
 use lib.ListN.{length, take, drop}
 use lib.Dec.{eqb}
 use Rattle.wire.specs.Choose.{pick}
+use Rattle.wire.specs.Header.{headerLen}
 use Rattle.wire.specs.declared.verdict.Verdict.{Verdict}
 use Rattle.payload.specs.declared.table.Table.{Table}
 use Rattle.payload.specs.declared.read.Reading.{Reading}
@@ -13,7 +14,6 @@ use Rattle.payload.specs.Walking.{afterOf, Admits}
 use Rattle.message.specs.declared.read.Expected.{Expected}
 use Rattle.message.specs.declared.read.Head.{Head}
 use Rattle.message.specs.declared.read.Opening.{Opening}
-use Rattle.message.specs.Header.{headerLen}
 use Rattle.message.specs.Reading.{headAt, noHead, messageOf}
 
 -- A message that ends at 0 is one whose header wasn't looked at.

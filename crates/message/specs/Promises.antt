@@ -7,6 +7,21 @@ use mathlib.Core.List.{List, _++_}
 use lib.ListN.{length, take, drop, getD, replicate}
 use Rattle.wire.specs.Choose.{pick}
 use Rattle.wire.specs.Verdict.{verdictNumber}
+use Rattle.wire.specs.Header.{
+  headerLen,
+  protocolVersion,
+  serviceOf,
+  methodOf,
+  lengthOf,
+  clientOf,
+  sessionOf,
+  versionOf,
+  interfaceOf,
+  typeOf,
+  codeOf,
+  endOf,
+}
+use Rattle.wire.specs.Part.{part, noPart, partOf}
 use Rattle.wire.specs.declared.verdict.Verdict.{Verdict}
 use Rattle.wire.specs.declared.verdict.Verdict.the-variants.{
   Accepted,
@@ -33,6 +48,7 @@ use Rattle.wire.specs.declared.verdict.Verdict.the-variants.{
   Wide,
   Heavy,
 }
+use Rattle.wire.specs.declared.part.Part.{Part}
 use Rattle.payload.specs.declared.row.Row.{Row}
 use Rattle.payload.specs.declared.table.Table.{Table}
 use Rattle.payload.specs.Table.{inRange, tableFits}
@@ -41,29 +57,12 @@ use Rattle.payload.specs.Reading.{payloadMost, readingOf}
 use Rattle.payload.specs.Outcome.{changesNone}
 use Rattle.payload.specs.declared.write.Written.{Written}
 use Rattle.message.specs.declared.header.Header.{Header}
-use Rattle.message.specs.declared.part.Part.{Part}
 use Rattle.message.specs.declared.read.Expected.{Expected}
 use Rattle.message.specs.declared.read.Head.{Head}
 use Rattle.message.specs.declared.read.MessageReading.{MessageReading}
 use Rattle.message.specs.declared.rows.Answered.{Answered}
 use Rattle.message.specs.MessageType.{request, requestNoReturn, notification, response, error, isOne}
-use Rattle.message.specs.Header.{
-  headerLen,
-  protocolVersion,
-  serviceOf,
-  methodOf,
-  lengthOf,
-  clientOf,
-  sessionOf,
-  versionOf,
-  interfaceOf,
-  typeOf,
-  codeOf,
-  endOf,
-  headerBytes,
-  Fitting,
-}
-use Rattle.message.specs.Part.{part, noPart, partOf}
+use Rattle.message.specs.Header.{headerBytes, Fitting}
 use Rattle.message.specs.Reading.{payloadOf, messageOf}
 use Rattle.message.specs.Rows.{answeredOf, rowsAfter, lentRows}
 use Rattle.message.specs.Writing.{messageWriting, messageOutput}

@@ -7,31 +7,7 @@ use lib.Seq.{slice}
 use lib.Dec.{ltb, eqb}
 use Rattle.wire.specs.Choose.{pick, and, or}
 use Rattle.wire.specs.Verdict.{verdictNumber}
-use Rattle.wire.specs.declared.verdict.Verdict.{Verdict}
-use Rattle.wire.specs.declared.verdict.Verdict.the-variants.{
-  Accepted,
-  Table as NoTable,
-  Room,
-  Short,
-  Length,
-  Protocol,
-  Service,
-  Interface,
-  Method,
-  MessageType,
-}
-use Rattle.payload.specs.declared.table.Table.{Table}
-use Rattle.payload.specs.declared.read.Reading.{Reading}
-use Rattle.payload.specs.Table.{inRange, tableFits}
-use Rattle.payload.specs.Reading.{untouched, cleared, readingOf}
-use Rattle.message.specs.declared.id.ClientId.{ClientId}
-use Rattle.message.specs.declared.id.SessionId.{SessionId}
-use Rattle.message.specs.declared.part.Part.{Part}
-use Rattle.message.specs.declared.read.Expected.{Expected}
-use Rattle.message.specs.declared.read.Head.{Head}
-use Rattle.message.specs.declared.read.MessageReading.{MessageReading}
-use Rattle.message.specs.MessageType.{isOne}
-use Rattle.message.specs.Header.{
+use Rattle.wire.specs.Header.{
   headerLen,
   protocolVersion,
   serviceOf,
@@ -45,7 +21,31 @@ use Rattle.message.specs.Header.{
   codeOf,
   endOf,
 }
-use Rattle.message.specs.Part.{part, noPart}
+use Rattle.wire.specs.Part.{part, noPart}
+use Rattle.wire.specs.declared.verdict.Verdict.{Verdict}
+use Rattle.wire.specs.declared.verdict.Verdict.the-variants.{
+  Accepted,
+  Table as NoTable,
+  Room,
+  Short,
+  Length,
+  Protocol,
+  Service,
+  Interface,
+  Method,
+  MessageType,
+}
+use Rattle.wire.specs.declared.id.ClientId.{ClientId}
+use Rattle.wire.specs.declared.id.SessionId.{SessionId}
+use Rattle.wire.specs.declared.part.Part.{Part}
+use Rattle.payload.specs.declared.table.Table.{Table}
+use Rattle.payload.specs.declared.read.Reading.{Reading}
+use Rattle.payload.specs.Table.{inRange, tableFits}
+use Rattle.payload.specs.Reading.{untouched, cleared, readingOf}
+use Rattle.message.specs.declared.read.Expected.{Expected}
+use Rattle.message.specs.declared.read.Head.{Head}
+use Rattle.message.specs.declared.read.MessageReading.{MessageReading}
+use Rattle.message.specs.MessageType.{isOne}
 
 -- ---- the parts, and what is handed on
 

@@ -4,6 +4,7 @@ use Prim.Native.Nat.{ℕ, _+_, _-_, _/_, _%_, _≤_, _<_}
 use mathlib.Core.Bool.{true}
 use mathlib.Core.List.{List, _++_}
 use lib.ListN.{length, drop, getD}
+use Rattle.wire.specs.Header.{headerLen, protocolVersion}
 use Rattle.wire.specs.declared.verdict.Verdict.the-variants.{Accepted}
 use Rattle.payload.specs.declared.table.Table.{Table}
 use Rattle.payload.specs.declared.row.Row.{Row}
@@ -12,7 +13,7 @@ use Rattle.payload.specs.Reading.{payloadMost}
 use Rattle.payload.specs.Settled.{payloadOf, Accepts}
 use Rattle.message.specs.declared.header.Header.{Header}
 use Rattle.message.specs.MessageType.{isOne}
-use Rattle.message.specs.Header.{headerLen, protocolVersion, Fitting}
+use Rattle.message.specs.Header.{Fitting}
 use Rattle.message.specs.Writing.{messageBytes, messageWriting, messageOutput}
 
 -- ---- by byte number

@@ -5,6 +5,7 @@ use mathlib.Core.Logic.{_⊎_}
 use mathlib.Core.List.{List}
 use Prim.Native.Nat.{ℕ, _+_, _<_}
 use lib.ListN.{length}
+use Rattle.wire.specs.Header.{headerLen}
 use Rattle.wire.specs.declared.verdict.Verdict.{Verdict}
 use Rattle.wire.specs.declared.verdict.Verdict.the-variants.{
   Accepted,
@@ -39,7 +40,6 @@ use Rattle.payload.specs.Settled.{payloadOf, Accepts}
 use Rattle.payload.specs.WriteWhen.{WrittenWhen}
 use Rattle.message.specs.declared.header.Header.{Header}
 use Rattle.message.specs.MessageType.{isOne}
-use Rattle.message.specs.Header.{headerLen}
 use Rattle.message.specs.Writing.{messageWriting}
 use Rattle.message.specs.Sent.{Sends}
 

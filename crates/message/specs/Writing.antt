@@ -4,6 +4,7 @@ use mathlib.Core.List.{List, _++_}
 use lib.ListN.{length}
 use lib.Dec.{ltb}
 use Rattle.wire.specs.Choose.{pick}
+use Rattle.wire.specs.Header.{headerLen}
 use Rattle.wire.specs.declared.verdict.Verdict.the-variants.{Table as NoTable, Room}
 use Rattle.payload.specs.declared.table.Table.{Table}
 use Rattle.payload.specs.declared.row.Row.{Row}
@@ -12,7 +13,7 @@ use Rattle.payload.specs.Reading.{payloadMost}
 use Rattle.payload.specs.Writing.{Outcome, refused, done, outcomeOf, answerIs, outputIs}
 use Rattle.message.specs.declared.header.Header.{Header}
 use Rattle.message.specs.MessageType.{isOne}
-use Rattle.message.specs.Header.{headerLen, headerBytes}
+use Rattle.message.specs.Header.{headerBytes}
 
 -- A message is its header, which counts the payload's bytes, and the payload.
 unfoldable pub messageBytes : Header → List ℕ → List ℕ

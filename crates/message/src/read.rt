@@ -1,23 +1,22 @@
 // Reading a message: the table and the room, the header, then the payload.
 
 ghost use mathlib.Core.Path.{_≡_};
-ghost use Prim.Native.Nat.{_+_, _≤_};
+ghost use Prim.Native.Nat.{_≤_};
 ghost use lib.ListN.{length};
-ghost use Rattle.message.specs.Header.{fieldAt};
 ghost use Rattle.message.specs.Reading.{lengthFails, headerVerdict, payloadShown, headAt, messageOf};
 ghost use Rattle.message.specs.Opening.{headOf, shutOf, Ends, Opened};
-use super::header;
-use super::id::ClientId;
-use super::id::MethodId;
-use super::id::ServiceId;
-use super::id::SessionId;
 use super::message_type::MessageType;
-use super::part::Part;
 use payload::read;
 use payload::read::Reading;
 use payload::table;
 use payload::table::Table;
+use wire::header;
+use wire::id::ClientId;
+use wire::id::MethodId;
+use wire::id::ServiceId;
+use wire::id::SessionId;
 use wire::number;
+use wire::part::Part;
 use wire::verdict::Verdict;
 
 // What the caller expects of a header.
@@ -52,14 +51,6 @@ pub struct Opening {
     pub end: usize,
 }
 
-// The number of the two bytes at a place.
-fn two_at(d: &[u8], at: usize) -> u16
-    requires { ⌜ at + 2 ≤ length (now d) ⌝ }
-    ensures { λ r. ⌜ r ≡ fieldAt at 2 (now (d .entry)) ⌝ }
-{
-    number::read_number(d, at, 2) as u16
-}
-
 // Whether a Length is below 8, or the message past the datagram's end; what is left of the datagram is compared, so that no sum can wrap.
 fn length_fails(length: u64, size: usize) -> bool
     requires { ⌜ 16 ≤ size ⌝ }
@@ -79,13 +70,13 @@ fn header_verdict(d: &[u8], e: Expected) -> Verdict
     if d[header::VERSION_AT] != header::VERSION {
         return Verdict::Protocol;
     }
-    if two_at(d, header::SERVICE_AT) != e.service.0 {
+    if header::two_at(d, header::SERVICE_AT) != e.service.0 {
         return Verdict::Service;
     }
     if d[header::INTERFACE_AT] != e.interface {
         return Verdict::Interface;
     }
-    if two_at(d, header::METHOD_AT) != e.method.0 {
+    if header::two_at(d, header::METHOD_AT) != e.method.0 {
         return Verdict::Method;
     }
     if d[header::TYPE_AT] != e.kind.0 {
@@ -121,8 +112,8 @@ fn head_at(d: &[u8], end: usize, why: Verdict) -> Head
     ensures { λ r. ⌜ r ≡ headAt (now (d .entry)) end why ⌝ }
 {
     Head {
-        client: ClientId(two_at(d, header::CLIENT_AT)),
-        session: SessionId(two_at(d, header::SESSION_AT)),
+        client: ClientId(header::two_at(d, header::CLIENT_AT)),
+        session: SessionId(header::two_at(d, header::SESSION_AT)),
         found_code: d[header::CODE_AT],
         payload: payload_shown(why, end),
         rest: Part {

@@ -7,12 +7,12 @@ ghost use lib.Seq.{sets};
 ghost use Rattle.payload.specs.Writing.{refused, answerIs};
 ghost use Rattle.message.specs.Header.{headerBytes};
 ghost use Rattle.message.specs.Writing.{messageWriting, messageOutput, bodyAt};
-use super::header;
 use super::header::Header;
 use payload::row::Row;
 use payload::table::Table;
 use payload::write;
 use payload::write::Written;
+use wire::header;
 use wire::number;
 use wire::verdict::Verdict;
 

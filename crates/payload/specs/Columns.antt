@@ -9,6 +9,7 @@ use Rattle.wire.specs.Choose.{pick}
 use Rattle.wire.specs.Number.{big, numberBytes, twosOf}
 use Rattle.wire.specs.Kind.{sizeOf, string, array, struct}
 use Rattle.wire.specs.Text.{stringBytes}
+use Rattle.wire.specs.Part.{runOf}
 use Rattle.payload.specs.declared.table.TypeRow.{TypeRow}
 use Rattle.payload.specs.declared.row.Row.{Row}
 use Rattle.payload.specs.declared.row.Value.{Value}
@@ -16,7 +17,6 @@ use Rattle.payload.specs.declared.row.Value.the-variants.{Absent, Unsign
 use Rattle.payload.specs.declared.columns.Held.{Held}
 use Rattle.payload.specs.Cells.{levelIn, kindIn, rowIn}
 use Rattle.payload.specs.Row.{absentRow}
-use Rattle.payload.specs.Judging.{runOf}
 use Rattle.payload.specs.Writing.{Put, nothing, leaf, branch, Part, putOf, tagFor}
 
 -- n, of the two's complement in eight bytes of n or of -1 - n

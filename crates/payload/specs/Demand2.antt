@@ -7,6 +7,7 @@ use lib.ListN.{length, take, getD}
 use lib.IntN.{ℤ}
 use lib.Ieee.{Float, binary32, binary64, ofBits}
 use Rattle.wire.specs.Number.{AreBytes}
+use Rattle.wire.specs.Part.{runOf}
 use Rattle.wire.specs.declared.verdict.Verdict.the-variants.{Accepted}
 use Rattle.payload.specs.declared.table.Table.{Table}
 use Rattle.payload.specs.declared.row.Row.{Row}
@@ -18,7 +19,6 @@ use Rattle.payload.specs.Row.{plain, absentRow, membersRow}
 use Rattle.payload.specs.Reading.{payloadMost, readingOf}
 use Rattle.payload.specs.Tree.{bytesOf}
 use Rattle.payload.specs.Formed.{Formed}
-use Rattle.payload.specs.Judging.{runOf}
 use Rattle.payload.specs.Writing.{treeOf, done, outcomeOf, writingOf, outputOf}
 use Rattle.payload.specs.Cases.{tableW, Case, cases}
 

@@ -2,13 +2,14 @@
 use Prim.Native.Nat.{ℕ, suc, _+_, _%_, _^_}
 use mathlib.Core.Bool.{Bool, true, false, not}
 use mathlib.Core.List.{List, [], _∷_}
-use lib.ListN.{length, take, drop}
+use lib.ListN.{length}
 use lib.IntN.{ℤ, pos, negsuc}
 use lib.Dec.{leb, ltb, eqb}
 use Rattle.wire.specs.Choose.{pick, and}
 use Rattle.wire.specs.Number.{half}
 use Rattle.wire.specs.Kind.{sizeOf, string, array, struct}
 use Rattle.wire.specs.Text.{textFits}
+use Rattle.wire.specs.Part.{runOf}
 use Rattle.payload.specs.declared.table.TypeRow.{TypeRow}
 use Rattle.payload.specs.declared.row.Row.{Row}
 use Rattle.payload.specs.declared.row.Value.{Value}
@@ -48,10 +49,6 @@ signedFits k z = and (inRange 6 9 k) (signedIn (sizeOf k) z)
 -- A float row's bits decide, below 2^32 for a float32.
 unfoldable pub floatFits : ℕ → ℕ → ℕ → Bool
 floatFits own k bits = and (eqb k own) (ltb bits (256 ^ sizeOf k))
-
--- the bytes of a run
-abbrev pub runOf : List ℕ → ℕ → ℕ → List ℕ
-runOf buf place len = take len (drop place buf)
 
 -- A string's text is well formed, an array's length a multiple of its element size.
 unfoldable pub runFits : List ℕ → TypeRow → ℕ → ℕ → Bool

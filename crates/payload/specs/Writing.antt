@@ -10,6 +10,7 @@ use Rattle.wire.specs.Number.{big, numberBytes, twosOf}
 use Rattle.wire.specs.Tag.{wireOf, tagOf, fieldWidth}
 use Rattle.wire.specs.Kind.{kindAt, sizeOf, string}
 use Rattle.wire.specs.Text.{stringBytes}
+use Rattle.wire.specs.Part.{runOf}
 use Rattle.wire.specs.declared.verdict.Verdict.{Verdict}
 use Rattle.wire.specs.declared.verdict.Verdict.the-variants.{Accepted, Table as NoTable, Room, Value as NoValue, Outside as Past, Wide, Heavy}
 use Rattle.payload.specs.declared.table.TypeRow.{TypeRow}
@@ -23,7 +24,7 @@ use Rattle.payload.specs.declared.write.Written.{Written}
 use Rattle.payload.specs.Table.{typeRows, tableFits}
 use Rattle.payload.specs.Tree.{Members, stop, mem, bytesOf}
 use Rattle.payload.specs.Reading.{payloadMost}
-use Rattle.payload.specs.Judging.{runOf, judgedOf}
+use Rattle.payload.specs.Judging.{judgedOf}
 
 -- ---- a row's member
 

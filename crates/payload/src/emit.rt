@@ -6,8 +6,8 @@ ghost use lib.ListN.{length};
 ghost use lib.Seq.{sets};
 ghost use Rattle.wire.specs.Kind.{string, struct};
 ghost use Rattle.wire.specs.Text.{stringBytes};
+ghost use Rattle.wire.specs.Part.{runOf};
 ghost use Rattle.payload.specs.Cells.{kindIn, rowIn, FineRow};
-ghost use Rattle.payload.specs.Judging.{runOf};
 ghost use Rattle.payload.specs.Writing.{tagFor};
 ghost use Rattle.payload.specs.Parts.{piece};
 ghost use Rattle.payload.specs.Columns.{contentIn, putIn, Kept};
@@ -15,6 +15,7 @@ ghost use Rattle.payload.specs.Sizes.{ownLen, Wires, Columns, bytesIn, W
 use super::table;
 use wire::kind;
 use wire::number;
+use wire::part;
 use wire::tag;
 
 // The tag of a row; `ws` is the wire type of what has a length field.
@@ -29,18 +30,6 @@ fn tag_for(cell: u64, ws: u64) -> u64
     tag::tag_of(ws, table::ident_in(cell))
 }
 
-// The `len` bytes of the content buffer from `place` on, at `at`.
-fn put_run(out: &mut [u8], at: usize, content: &[u8], place: usize, len: usize)
-    requires { ⌜ (at + len ≤ length (now out)) × (place + len ≤ length (now content)) ⌝ }
-    ensures { λ r. ⌜ now (out .exit) ≡ sets (now (out .entry)) at (runOf (now (content .entry)) place len) ⌝ }
-{
-    let mut i: usize = 0;
-    while i < len {
-        out[at + i] = content[place + i];
-        i += 1;
-    }
-}
-
 // A string's content: mark, text, terminator.
 fn put_text(out: &mut [u8], at: usize, content: &[u8], place: usize, len: usize)
     requires { ⌜ (at + (len + 4) ≤ length (now out)) × (place + len ≤ length (now content)) ⌝ }
@@ -49,7 +38,7 @@ fn put_text(out: &mut [u8], at: usize, content: &[u8], place: usize, len: usize)
     out[at] = 0xEF;
     out[at + 1] = 0xBB;
     out[at + 2] = 0xBF;
-    put_run(out, at + 3, content, place, len);
+    part::put_run(out, at + 3, content, place, len);
     out[at + 3 + len] = 0;
 }
 
@@ -63,7 +52,7 @@ fn put_content(out: &mut [u8], at: usize, cell: u64, num: u64, size: usize, cont
         put_text(out, at, content, num as usize, size - 5);
         return;
     }
-    put_run(out, at, content, num as usize, size - 1);
+    part::put_run(out, at, content, num as usize, size - 1);
 }
 
 // A row's member at `at`: tag, then a number, or a length field and a content. The answer is the next place.

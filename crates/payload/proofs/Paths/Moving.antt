@@ -14,13 +14,13 @@ use Rattle.wire.specs.Choose.{pick, and}
 use Rattle.wire.specs.Number.{big, numberOf}
 use Rattle.wire.specs.Kind.{string, array, struct}
 use Rattle.wire.specs.Text.{stringFits}
+use Rattle.wire.specs.Part.{runOf}
 use Rattle.payload.specs.declared.table.TypeRow.{TypeRow}
 use Rattle.payload.specs.declared.row.Row.{Row}
 use Rattle.payload.specs.declared.row.Value.{Value}
 use Rattle.payload.specs.declared.row.Value.the-variants.{Unsigned, Bytes, Members}
 use Rattle.payload.specs.Row.{plain, membersRow, numberRow, shownOf}
 use Rattle.payload.specs.Reading.{contentFits}
-use Rattle.payload.specs.Judging.{runOf}
 use Rattle.payload.specs.Paths.{Lies}
 use Rattle.payload.specs.Demand2.{
   SameAs,

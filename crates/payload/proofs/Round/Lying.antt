@@ -8,10 +8,10 @@ use lib.ListN.{length, take, drop, length-append, length-drop, take-append-drop}
 use lib.Seq.{length-take-le, take-at, drop-at}
 use Rattle.wire.specs.Number.{big, numberBytes}
 use Rattle.wire.specs.Tag.{wireOf}
+use Rattle.wire.specs.Part.{runOf}
 use Rattle.wire.proofs.NumberLaws.{length-numberBytes}
 use Rattle.payload.specs.Tree.{fieldBytes, memberBytes}
 use Rattle.payload.specs.Formed.{contentAt}
-use Rattle.payload.specs.Judging.{runOf}
 use Rattle.payload.specs.Paths.{Lies}
 use Rattle.payload.proofs.Trees.Frame.{length-field, length-member}
 

@@ -15,6 +15,7 @@ use Rattle.wire.specs.Number.{Within, up, down, AreBytes, big, numberBytes, two
 use Rattle.wire.specs.Tag.{wireOf, identOf, tagOf, fixedSize, fieldWidth}
 use Rattle.wire.specs.Kind.{kindAt, sizeOf, wireFits, string, array, struct}
 use Rattle.wire.specs.Text.{textFits, stringBytes}
+use Rattle.wire.specs.Part.{runOf}
 use Rattle.wire.proofs.NumberLaws.{bytes-nil, bytes-cons, bytes-take, bytes-append, bytes-numberBytes, length-numberBytes, number-back, twos-below, signed-twos}
 use Rattle.wire.proofs.KindLaws.{number-wire, number-size, number-some, lengthed-wire}
 use Rattle.wire.proofs.TextLaws.{string-is}
@@ -25,7 +26,7 @@ use Rattle.payload.specs.Table.{inRange, RowRules}
 use Rattle.payload.specs.Row.{numberRow, shownOf}
 use Rattle.payload.specs.Reading.{contentFits}
 use Rattle.payload.specs.Formed.{lengthFits}
-use Rattle.payload.specs.Judging.{outside, unsignedFits, signedIn, signedFits, floatFits, runOf, runFits, valueFits}
+use Rattle.payload.specs.Judging.{outside, unsignedFits, signedIn, signedFits, floatFits, runFits, valueFits}
 use Rattle.payload.specs.Writing.{runWire, tagFor, Put, nothing, leaf, branch, putOf, tooWide}
 use Rattle.payload.specs.Paths.{Lies}
 use Rattle.payload.specs.Demand2.{SameAs, same-unsigned, same-signed, same-float32, same-float64, same-run}

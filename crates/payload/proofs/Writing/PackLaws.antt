@@ -13,13 +13,14 @@ use Rattle.wire.specs.Choose.{pick, and}
 use Rattle.wire.specs.Number.{big, numberBytes, half, twosOf, Within, up, down}
 use Rattle.wire.specs.Kind.{sizeOf, string, array, struct}
 use Rattle.wire.specs.Text.{textFits, stringBytes}
+use Rattle.wire.specs.Part.{runOf}
 use Rattle.payload.specs.declared.table.TypeRow.{TypeRow}
 use Rattle.payload.specs.declared.row.Row.{Row}
 use Rattle.payload.specs.declared.row.Value.{Value}
 use Rattle.payload.specs.declared.row.Value.the-variants.{Absent, Unsigned, Signed, Float32, Float64, Bytes, Members}
 use Rattle.payload.specs.Row.{isAbsent}
 use Rattle.payload.specs.Table.{inRange}
-use Rattle.payload.specs.Judging.{outside, unsignedFits, signedIn, signedFits, floatFits, runOf, runFits, valueFits, rowFine}
+use Rattle.payload.specs.Judging.{outside, unsignedFits, signedIn, signedFits, floatFits, runFits, valueFits, rowFine}
 use Rattle.payload.specs.Writing.{leaf, putOf}
 use Rattle.payload.specs.Columns.{heldOf, putIn, Kept, Packed, ShortRun}
 use Rattle.wire.proofs.NumberLaws.{low-twos}

@@ -14,9 +14,9 @@ use Rattle.wire.specs.Number.{big, numberBytes}
 use Rattle.wire.specs.Tag.{wireOf, tagOf}
 use Rattle.wire.specs.Kind.{kindAt, string, struct}
 use Rattle.wire.specs.Text.{stringBytes}
+use Rattle.wire.specs.Part.{runOf}
 use Rattle.payload.specs.Cells.{identIn, levelIn, kindIn, rowIn, FineRow}
 use Rattle.payload.specs.Tree.{fieldBytes, memberBytes}
-use Rattle.payload.specs.Judging.{runOf}
 use Rattle.payload.specs.Writing.{nothing, leaf, branch, Part, tagFor, tooWide}
 use Rattle.payload.specs.Parts.{piece, under, wideHere}
 use Rattle.payload.specs.Columns.{contentIn, putIn, partIn, Kept}

@@ -1,44 +1,22 @@
--- Stores in the output: how runs of them join, one turn of the loop that copies, a string's stores, and a row's before those of the rows
--- after it.
+-- Stores in the output: a string's, and a row's before those of the rows after it.
 -- Assumes nothing.
 use mathlib.Core.Path.{_≡_, sym, ap, _∙_}
 use mathlib.Core.List.{List, [], _∷_, _++_}
 use Prim.Native.Nat.{ℕ, suc, _+_, _-_, _<_, _≤_}
-use native.Mathlib.Nat.{add-zero, add-suc, suc-add}
 use native.Mathlib.Omega.{arith}
-use lib.ListN.{length, getD, take, drop, set, length-append, length-drop}
-use lib.Seq.{sets, take-suc, getD-drop, length-take-le}
+use lib.ListN.{length, getD, set, length-append}
+use lib.Seq.{sets}
 use borrow.Author.Tests.{le-ltb}
 use Rattle.wire.specs.Text.{stringBytes}
+use Rattle.wire.specs.Part.{runOf}
+use Rattle.wire.proofs.StoreLaws.{sets-append}
 use Rattle.payload.specs.Cells.{levelIn, kindIn, rowIn}
-use Rattle.payload.specs.Judging.{runOf}
 use Rattle.payload.specs.Writing.{tagFor}
 use Rattle.payload.specs.Parts.{piece, under}
 use Rattle.payload.specs.Columns.{putIn}
 use Rattle.payload.specs.Sizes.{ownLen, Columns, restIn, wholeAt}
 use Rattle.payload.proofs.Writing.SizeLaws.{length-run, length-piece, piece-same}
 use Rattle.payload.proofs.Writing.MeasureLaws.{rest-more, rest-end}
-
-pub sets-append : (xs ys l : List ℕ) (i : ℕ) → sets l i (xs ++ ys) ≡ sets (sets l i xs) (i + length xs) ys
-sets-append [] ys l i = rw add-zero
-sets-append (a ∷ xs) ys l i = rw (add-suc, ← suc-add) (sets-append xs ys (set l i a) (suc i))
-
--- stores one after the other, as the code has them
-pub two-stores : (l xs ys : List ℕ) (at n : ℕ) → length xs ≡ n → sets (sets l at xs) (at + n) ys ≡ sets l at (xs ++ ys)
-two-stores l xs ys at n e = rw (← e) (sym (sets-append xs ys l at))
-
-pub three-stores : (l xs ys zs : List ℕ) (at m n : ℕ) → length xs ≡ m → length ys ≡ n → sets (sets (sets l at xs) (at + m) ys) (at + m + n) zs
-    ≡ sets l at (xs ++ (ys ++ zs))
-three-stores l xs ys zs at m n ex ey = two-stores (sets l at xs) ys zs (at + m) n ey ∙ two-stores l xs (ys ++ zs) at m ex
-
--- one byte more of a run
-pub run-store : (l buf : List ℕ) (at place i : ℕ) → place + i < length buf
-    → set (sets l at (runOf buf place i)) (at + i) (getD buf (place + i) 0) ≡ sets l at (runOf buf place (i + 1))
-run-store l buf at place i h =
-    let one : i + 1 ≡ suc i = omega arith in
-    let below : i < length (drop place buf) = omega (arith, length-drop place buf) in
-    let upto : length (take i (drop place buf)) ≡ i = length-take-le i (drop place buf) (omega arith) in
-    rw (one, take-suc (drop place buf) i 0 below, sets-append (take i (drop place buf)), upto, getD-drop)
 
 -- mark, text, terminator
 pub text-store : (l buf : List ℕ) (at place len : ℕ) → place + len ≤ length buf

@@ -17,9 +17,10 @@ use Rattle.wire.specs.Choose.{and}
 use Rattle.wire.specs.Number.{half, twosOf}
 use Rattle.wire.specs.Kind.{sizeOf, string, array, struct}
 use Rattle.wire.specs.Text.{textFits}
+use Rattle.wire.specs.Part.{runOf}
 use Rattle.payload.specs.declared.table.TypeRow.{TypeRow}
 use Rattle.payload.specs.Table.{inRange}
-use Rattle.payload.specs.Judging.{unsignedFits, signedIn, signedFits, floatFits, runOf, runFits}
+use Rattle.payload.specs.Judging.{unsignedFits, signedIn, signedFits, floatFits, runFits}
 use Rattle.payload.specs.Columns.{flipOf}
 use Rattle.wire.proofs.NumberLaws.{pow-bytes}
 use Rattle.wire.proofs.KindLaws.{number-some}

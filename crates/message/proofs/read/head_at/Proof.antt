@@ -1,8 +1,8 @@
 -- `message::read::head_at` meets its contract: each field at its place.
 -- Assumes nothing.
 use native.Mathlib.Omega.{arith}
+use Rattle.wire.proofs.FieldLaws.{byte-field}
 use Rattle.message.specs.Reading.{headAt}
-use Rattle.message.proofs.HeaderLaws.{byte-field}
 use borrow.Author.Needs.{needs}
 use Rattle.message.proofs.read.head_at.Statement.{statement}
 use Rattle.message.proofs.read.head_at.Tie as tie

@@ -3,7 +3,7 @@
 use mathlib.Core.Path.{refl, sym, _∙_}
 use native.Mathlib.Omega.{arith}
 use borrow.Author.Tests.{not-true, not-false}
-use Rattle.message.specs.Header.{fieldAt}
+use Rattle.wire.specs.Header.{fieldAt}
 use Rattle.message.proofs.HeaderLaws.{length-fine}
 use Rattle.message.proofs.ReadLaws.{opened-kind, opened-table, opened-room, opened-short, opened-length, opened-headed}
 use borrow.Author.Needs.{needs}

@@ -10,6 +10,7 @@ use Rattle.payload.specs.Cells.{kindIn, rowIn}
 use Rattle.payload.specs.Writing.{tagFor}
 use Rattle.payload.specs.Columns.{contentIn}
 use Rattle.wire.proofs.NumberLaws.{length-numberBytes}
+use Rattle.wire.proofs.StoreLaws.{two-stores, three-stores}
 use Rattle.payload.proofs.Writing.SizeLaws.{
   own-none,
   own-number,
@@ -22,7 +23,6 @@ use Rattle.payload.proofs.Writing.SizeLaws.{
   piece-branch,
   piece-run,
 }
-use Rattle.payload.proofs.Writing.StoreLaws.{two-stores, three-stores}
 use borrow.Author.Needs.{needs}
 use Rattle.payload.proofs.emit.put_row.Statement.{statement}
 use Rattle.payload.proofs.emit.put_row.Tie as tie
