@@ -8,12 +8,7 @@ ghost use Rattle.wire.specs.declared.verdict.Verdict.the-variants.{Accepted};
 ghost use Rattle.message.specs.Reading.{noHead};
 ghost use Rattle.bench.specs.Form.{pairAt, countIn, typeRowAt, tableIn, expectedIn, headerIn};
 use message::header::Header;
-use message::id::ClientId;
-use message::id::MethodId;
-use message::id::ServiceId;
-use message::id::SessionId;
 use message::message_type::MessageType;
-use message::part::Part;
 use message::read::Expected;
 use message::read::Head;
 use message::rows::Answered;
@@ -22,7 +17,12 @@ use payload::row::Value;
 use payload::table::Table;
 use payload::table::TypeRow;
 use payload::write::Written;
+use wire::id::ClientId;
+use wire::id::MethodId;
+use wire::id::ServiceId;
+use wire::id::SessionId;
 use wire::number;
+use wire::part::Part;
 use wire::verdict::Verdict;
 
 // A byte as a number of rows or of bytes.

@@ -1,12 +1,12 @@
 // The answers, as the program in C writes them, so that the two can be compared byte for byte.
 
 use super::input;
-use message::part::Part;
 use message::rows::Answered;
 use payload::row::Row;
 use payload::row::Value;
 use payload::write::Written;
 use wire::number;
+use wire::part::Part;
 
 // A number and a space.
 fn put(n: u64) {

@@ -3,13 +3,13 @@
 ghost use mathlib.Core.Path.{_≡_};
 ghost use Rattle.chudopolk.specs.Head.{expectedOf, codeNumber, answerIs, headerOf, sentIs};
 use message::header::Header;
-use message::id::ClientId;
-use message::id::MethodId;
-use message::id::ServiceId;
-use message::id::SessionId;
 use message::message_type::MessageType;
 use message::read::Expected;
 use message::read::Head;
+use wire::id::ClientId;
+use wire::id::MethodId;
+use wire::id::ServiceId;
+use wire::id::SessionId;
 use wire::verdict::ReturnCode;
 use wire::verdict::Verdict;
 

@@ -10,10 +10,6 @@ use super::words;
 use libc::STDERR_FILENO as ERR;
 use libc::STDOUT_FILENO as OUT;
 use message::header::Header;
-use message::id::ClientId;
-use message::id::MethodId;
-use message::id::ServiceId;
-use message::id::SessionId;
 use message::message_type::MessageType;
 use message::write;
 use payload::row::Row;
@@ -21,6 +17,10 @@ use payload::row::Value;
 use payload::table::TypeRow;
 use text::say;
 use text::slice;
+use wire::id::ClientId;
+use wire::id::MethodId;
+use wire::id::ServiceId;
+use wire::id::SessionId;
 use wire::text as wire_text;
 
 // Whether a row is present.

@@ -9,8 +9,6 @@ use super::complain::Got;
 use super::phrase;
 use super::row_line;
 use libc::STDERR_FILENO as ERR;
-use message::id::MethodId;
-use message::id::ServiceId;
 use message::message_type::MessageType;
 use message::read::Expected;
 use payload::table;
@@ -21,6 +19,8 @@ use text::say;
 use text::slice;
 use text::word;
 use text::word::Word;
+use wire::id::MethodId;
+use wire::id::ServiceId;
 
 // Where a row's name stands in the text, and in which line.
 pub struct Name {

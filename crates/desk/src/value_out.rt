@@ -5,8 +5,6 @@ ghost use Prim.Native.Nat.{_≤_};
 use super::kind;
 use super::phrase;
 use libc::STDOUT_FILENO as OUT;
-use message::part;
-use message::part::Part;
 use payload::row::Row;
 use payload::row::Value;
 use text::decimal;
@@ -14,6 +12,8 @@ use text::float;
 use text::quote;
 use text::say;
 use wire::number;
+use wire::part;
+use wire::part::Part;
 
 // The value of a float by its bits without the sign, of which those of infinity are given.
 fn finite(magnitude: u64, infinity: u64, wide: bool) -> bool {

@@ -4,14 +4,14 @@ ghost use mathlib.Core.Path.{_≡_};
 ghost use Rattle.payload.specs.Cases.{tableW};
 ghost use Rattle.message.specs.Reading.{messageOf};
 ghost use Rattle.showw.specs.TableW.{row as rowOf, expectedW, rowCount};
-use message::id::MethodId;
-use message::id::ServiceId;
 use message::message_type::MessageType;
 use message::read;
 use message::read::Expected;
 use payload::read::Reading;
 use payload::table::Table;
 use payload::table::TypeRow;
+use wire::id::MethodId;
+use wire::id::ServiceId;
 
 // The kinds of table W's rows.
 const UINT16: u8 = 3;

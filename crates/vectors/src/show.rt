@@ -3,7 +3,6 @@
 ghost use Prim.Native.Nat.{_<_};
 use super::input;
 use super::lent;
-use message::part::Part;
 use message::read::MessageReading;
 use payload::read::Reading;
 use payload::row::Row;
@@ -11,6 +10,7 @@ use payload::row::Value;
 use payload::table::Table;
 use payload::write::Written;
 use wire::number;
+use wire::part::Part;
 use wire::verdict::ReturnCode;
 use wire::verdict::Verdict;
 

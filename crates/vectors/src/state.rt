@@ -3,16 +3,16 @@
 ghost use Prim.Native.Nat.{_≤_};
 use super::input;
 use message::header::Header;
-use message::id::ClientId;
-use message::id::MethodId;
-use message::id::ServiceId;
-use message::id::SessionId;
 use message::message_type::MessageType;
 use message::read::Expected;
 use payload::row::Row;
 use payload::row::Value;
 use payload::table::Table;
 use payload::table::TypeRow;
+use wire::id::ClientId;
+use wire::id::MethodId;
+use wire::id::ServiceId;
+use wire::id::SessionId;
 use wire::number;
 
 // The bytes of a value row.
