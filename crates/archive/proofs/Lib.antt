@@ -1,3 +1,4 @@
 pub mod FormLaws
 pub mod RecordLaws
 pub mod WalkLaws
+pub mod OpenLaws
