@@ -100,3 +100,16 @@ module _ (file : List ℕ) (are : AreBytes file) where
         s,
         same-field (to + w) 2 (sessionIn file at) (omega arith) (field-below (at + 2 + sessionAt) 2 (omega arith)),
       )
+
+-- ---- as the code compares them
+
+module _ (file : List ℕ) (f : Form) (to at w v : ℕ) (ew : w ≡ offsetWidth f) (ev : v ≡ fieldAt to w file) where
+  -- another offset
+  pub entry-other : (v ≡ at → ⊥) → false ≡ entryAgrees file f to at
+  unfolding entryAgrees
+  entry-other n = rw (← ew, ← ev, ne-eqb v at n)
+
+  -- the offset, and both Session IDs
+  pub entry-two : v ≡ at → (a b : ℕ) → a ≡ fieldAt (to + w) 2 file → b ≡ sessionIn file at → eqb a b ≡ entryAgrees file f to at
+  unfolding entryAgrees
+  entry-two e a b ea eb = rw (← ew, ← ev, eq-eqb v at e, ← ea, ← eb)

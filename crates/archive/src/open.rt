@@ -39,11 +39,11 @@ fn entry_agrees(file: &[u8], f: Form, to: usize, at: usize) -> bool
     requires { ⌜ (to + entrySize f ≤ length (now file)) × (at + 14 ≤ length (now file)) ⌝ }
     ensures { λ r. ⌜ r ≡ entryAgrees (now (file .entry)) f to at ⌝ }
 {
-    if number::read_number(file, to, f.offset_width()) != at as u64 {
+    let w = f.offset_width();
+    if number::read_number(file, to, w) != at as u64 {
         return false;
     }
-    header::two_at(file, to + f.offset_width())
-        == header::two_at(file, at + form::LENGTH_LEN + header::SESSION_AT)
+    header::two_at(file, to + w) == header::two_at(file, at + form::LENGTH_LEN + header::SESSION_AT)
 }
 
 // Whether the entries from `size` to `end` are those of the records before `size`. The walk has found them whole, and as many.
