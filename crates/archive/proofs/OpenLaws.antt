@@ -2,13 +2,14 @@
 -- Assumes nothing.
 use mathlib.Core.Path.{_≡_, refl, sym, ap, _∙_}
 use mathlib.Core.Bool.{Bool, true, false}
+use mathlib.Core.Option.{Option, none, some}
 use mathlib.Core.List.{List, [], _∷_, _++_}
 use Prim.Native.Nat.{ℕ, zero, suc, _+_, _-_, _*_, _^_, _≤_, _<_}
 use native.Mathlib.Omega.{arith}
 use lib.ListN.{length, take, drop, take-append-drop}
-use lib.Seq.{slice, take-take, drop-drop, length-slice}
+use lib.Seq.{slice, take-take, drop-drop, length-slice, slice-empty}
 use lib.Dec.{eqb}
-use borrow.Author.Tests.{eqb-true, eq-eqb, ne-eqb}
+use borrow.Author.Tests.{le-leb, eqb-true, eq-eqb, ne-eqb}
 use Rattle.wire.specs.Choose.{and}
 use Rattle.wire.specs.Number.{AreBytes, big, numberOf, numberBytes}
 use Rattle.wire.specs.Header.{fieldAt, sessionAt, sessionOf}
@@ -16,9 +17,16 @@ use Rattle.wire.proofs.ChooseLaws.{and-left, and-right}
 use Rattle.wire.proofs.NumberLaws.{bytes-slice, bytes-back, number-back, length-numberBytes, read-below}
 use Rattle.wire.proofs.PartLaws.{cut-slice}
 use Rattle.archive.specs.declared.form.Form.{Form}
-use Rattle.archive.specs.Form.{offsetWidth, entrySize, entryBytes}
+use Rattle.archive.specs.Form.{offsetWidth, entrySize, limit, entryBytes, indexBytes}
+use Rattle.archive.specs.Records.{messageIn, recordFits, before, cutAll, messagesIn, messagesTo}
 use Rattle.archive.specs.Opening.{same}
-use Rattle.archive.specs.Walking.{sessionIn, entryAgrees}
+use Rattle.archive.specs.Walking.{cutSize, isWhole, listed, sessionIn, entryAgrees}
+use Rattle.archive.proofs.FormLaws.{limit-fits}
+use Rattle.archive.proofs.RecordLaws.{turns-enough, length-entry}
+use Rattle.archive.proofs.WalkLaws.{cut-end, cut-none, cut-more, cut-sized, size-of, session-there}
+
+true-false : true ≡ false → ⊥
+true-false e = let z : _≡_ {A = ℕ} 0 1 = cc in omega arith
 
 -- ---- the same bytes
 
@@ -113,3 +121,122 @@ module _ (file : List ℕ) (f : Form) (to at w v : ℕ) (ew : w ≡ offsetWidth 
   pub entry-two : v ≡ at → (a b : ℕ) → a ≡ fieldAt (to + w) 2 file → b ≡ sessionIn file at → eqb a b ≡ entryAgrees file f to at
   unfolding entryAgrees
   entry-two e a b ea eb = rw (← ew, ← ev, eq-eqb v at e, ← ea, ← eb)
+
+-- ---- whole records, one by one
+
+before-whole : (m : List ℕ) (r : Option (List (List ℕ))) → isWhole (before m r) ≡ isWhole r
+before-whole m none = refl
+before-whole m (some ms) = refl
+
+before-listed : (m : List ℕ) (r : Option (List (List ℕ))) → isWhole r ≡ true → listed (before m r) ≡ m ∷ listed r
+before-listed m none e = absurd (true-false (sym e))
+before-listed m (some ms) e = refl
+
+-- the messages of the records from `at` to `size`
+abbrev pub messagesFrom : List ℕ → ℕ → ℕ → Option (List (List ℕ))
+messagesFrom file at size = messagesIn (slice at size file)
+
+module _ (file : List ℕ) (at size : ℕ) (under : at < size) (inside : size ≤ length file) (whole : isWhole (messagesFrom file at size) ≡ true) where
+  long : length (slice at size file) ≡ suc (size - at - 1)
+  long = length-slice at size file inside ∙ omega arith
+
+  -- a record stands there
+  pub next-fits : recordFits (slice at size file) ≡ true
+  next-fits = go (recordFits (slice at size file)) refl
+    where
+      go : (c : Bool) → recordFits (slice at size file) ≡ c → c ≡ true
+      go true e = refl
+      go false e =
+          let n : messagesFrom file at size ≡ none = ap (λ n. cutAll n (slice at size file)) long ∙ cut-none file at size under inside (size - at - 1) e in
+          rw n at whole
+
+  abbrev next : ℕ
+  next = at + cutSize (slice at size file)
+
+  next-is : messagesFrom file at size ≡ before (messageIn (slice at size file)) (messagesFrom file next size)
+  next-is =
+      let l = length-slice next size file inside in
+      let few : length (slice next size file) ≤ size - at - 1 = omega (arith, cut-sized file at size under inside next-fits) in
+      ap (λ n. cutAll n (slice at size file)) long
+      ∙ cut-more file at size under inside next-fits (size - at - 1)
+      ∙ ap (before (messageIn (slice at size file))) (turns-enough (size - at - 1) (length (slice next size file)) (slice next size file) few (omega arith))
+
+  pub next-whole : isWhole (messagesFrom file next size) ≡ true
+  next-whole = sym (before-whole (messageIn (slice at size file)) (messagesFrom file next size)) ∙ ap isWhole (sym next-is) ∙ whole
+
+  pub next-listed : listed (messagesFrom file at size) ≡ messageIn (slice at size file) ∷ listed (messagesFrom file next size)
+  next-listed = ap listed next-is ∙ before-listed (messageIn (slice at size file)) (messagesFrom file next size) next-whole
+
+-- ---- the loop over records and entries
+
+-- Records from `at` on and entries from `to` on are left; the entries before are the records'.
+pub record Going (file : List ℕ) (f : Form) (size end at to : ℕ) : Type 0 where
+  pub under : at ≤ size
+  pub whole : isWhole (messagesFrom file at size) ≡ true
+  pub ends : to + entrySize f * length (listed (messagesFrom file at size)) ≡ end
+  pub left : same (slice size end file) (indexBytes f 0 (listed (messagesTo file size)))
+      ≡ same (slice to end file) (indexBytes f at (listed (messagesFrom file at size)))
+
+pub going-start : (file : List ℕ) (f : Form) (size end : ℕ) → isWhole (messagesTo file size) ≡ true → size ≤ length file
+    → size + entrySize f * length (listed (messagesTo file size)) ≡ end → Going file f size end 0 size
+unfolding messagesTo
+going-start file f size end w h e =
+    let i : messagesTo file size ≡ messagesIn (take size file) = rw (le-leb size (length file) h) in
+    record { under = omega arith; whole = rw i at w; ends = rw i at e; left = rw i }
+
+module _ (file : List ℕ) (are : AreBytes file) (f : Form) (size end at to : ℕ) (fits : size ≤ limit f) (within : size ≤ length file)
+    (inside : end ≤ length file) (g : Going file f size end at to) where
+  pub going-end : size ≤ at → true ≡ same (slice size end file) (indexBytes f 0 (listed (messagesTo file size)))
+  unfolding same indexBytes
+  going-end h =
+      let e : at ≡ size = omega (arith, g .under) in
+      let n : listed (messagesFrom file at size) ≡ [] = rw e (ap listed (cut-end (length (slice size size file)) size file)) in
+      let t : to ≡ end = omega (arith, g .ends, ap (λ ms. entrySize f * length ms) n) in
+      sym (g .left ∙ rw (n, t, slice-empty end file))
+
+  module _ (more : at < size) where
+    record-there : recordFits (slice at size file) ≡ true
+    record-there = next-fits file at size more within (g .whole)
+
+    pub record-sized : (18 ≤ cutSize (slice at size file)) × (at + cutSize (slice at size file) ≤ size)
+    record-sized = cut-sized file at size more within record-there
+
+    abbrev m : List ℕ
+    m = messageIn (slice at size file)
+
+    abbrev then : ℕ
+    then = at + cutSize (slice at size file)
+
+    then-ends : to + entrySize f + entrySize f * length (listed (messagesFrom file then size)) ≡ end
+    then-ends =
+        let e : entrySize f * suc (length (listed (messagesFrom file then size))) ≡ entrySize f + entrySize f * length (listed (messagesFrom file then size)) = omega arith in
+        omega (arith, g .ends, ap (λ ms. entrySize f * length ms) (next-listed file at size more within (g .whole)))
+
+    pub entry-room : to + entrySize f ≤ end
+    entry-room = omega (arith, then-ends)
+
+    entry-left : same (slice to end file) (indexBytes f at (listed (messagesFrom file at size)))
+        ≡ and (entryAgrees file f to at) (same (slice (to + entrySize f) end file) (indexBytes f then (listed (messagesFrom file then size))))
+    unfolding indexBytes
+    entry-left =
+        let l : length (slice to (to + entrySize f) file) ≡ length (entryBytes f at m) =
+        length-slice to (to + entrySize f) file (omega (arith, entry-room)) ∙ omega (arith, length-entry f at m) in
+        rw (
+          next-listed file at size more within (g .whole),
+          ← size-of file at size more within record-there,
+          slice-split to (to + entrySize f) end file (omega arith) entry-room,
+          same-append (slice to (to + entrySize f) file) (entryBytes f at m) (slice (to + entrySize f) end file) _ l,
+          entry-same file are f to at m (omega (arith, entry-room)) (omega (arith, record-sized)) (omega (arith, limit-fits f)) (session-there file at size more within record-there),
+        )
+
+    pub going-no : entryAgrees file f to at ≡ false → false ≡ same (slice size end file) (indexBytes f 0 (listed (messagesTo file size)))
+    going-no e = sym (g .left ∙ entry-left ∙ rw e)
+
+    pub going-on : entryAgrees file f to at ≡ true → Going file f size end then (to + entrySize f)
+    going-on e =
+        record {
+          under = omega (arith, record-sized);
+          whole = next-whole file at size more within (g .whole);
+          ends = then-ends;
+          left = g .left ∙ entry-left ∙ rw e;
+        }
