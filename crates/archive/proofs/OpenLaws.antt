@@ -177,66 +177,78 @@ pub record Going (file : List ℕ) (f : Form) (size end at to : ℕ) : Type 0 wh
   pub left : same (slice size end file) (indexBytes f 0 (listed (messagesTo file size)))
       ≡ same (slice to end file) (indexBytes f at (listed (messagesFrom file at size)))
 
-pub going-start : (file : List ℕ) (f : Form) (size end : ℕ) → isWhole (messagesTo file size) ≡ true → size ≤ length file
-    → size + entrySize f * length (listed (messagesTo file size)) ≡ end → Going file f size end 0 size
-unfolding messagesTo
-going-start file f size end w h e =
-    let i : messagesTo file size ≡ messagesIn (take size file) = rw (le-leb size (length file) h) in
-    record { under = omega arith; whole = rw i at w; ends = rw i at e; left = rw i }
+-- what the walk has found before
+abbrev pub Told : List ℕ → Form → ℕ → ℕ → Type 0
+Told file f size end =
+    (isWhole (messagesTo file size) ≡ true)
+    × (size ≤ limit f)
+    × (size + entrySize f * length (listed (messagesTo file size)) ≡ end)
+    × (end ≤ length file)
 
-module _ (file : List ℕ) (are : AreBytes file) (f : Form) (size end at to : ℕ) (fits : size ≤ limit f) (within : size ≤ length file)
-    (inside : end ≤ length file) (g : Going file f size end at to) where
-  pub going-end : size ≤ at → true ≡ same (slice size end file) (indexBytes f 0 (listed (messagesTo file size)))
-  unfolding same indexBytes
-  going-end h =
-      let e : at ≡ size = omega (arith, g .under) in
-      let n : listed (messagesFrom file at size) ≡ [] = rw e (ap listed (cut-end (length (slice size size file)) size file)) in
-      let t : to ≡ end = omega (arith, g .ends, ap (λ ms. entrySize f * length ms) n) in
-      sym (g .left ∙ rw (n, t, slice-empty end file))
+module _ (file : List ℕ) (f : Form) (size end : ℕ) (told : Told file f size end) where
+  within : size ≤ length file
+  within = omega arith
 
-  module _ (more : at < size) where
-    record-there : recordFits (slice at size file) ≡ true
-    record-there = next-fits file at size more within (g .whole)
+  pub going-start : Going file f size end 0 size
+  unfolding messagesTo
+  going-start =
+      let i : messagesTo file size ≡ messagesIn (take size file) = rw (le-leb size (length file) within) in
+      record { under = omega arith; whole = rw i at (told .0); ends = rw i at (told .2); left = rw i }
 
-    pub record-sized : (18 ≤ cutSize (slice at size file)) × (at + cutSize (slice at size file) ≤ size)
-    record-sized = cut-sized file at size more within record-there
+  module _ (at to : ℕ) (g : Going file f size end at to) where
+    pub going-end : size ≤ at → true ≡ same (slice size end file) (indexBytes f 0 (listed (messagesTo file size)))
+    unfolding same indexBytes
+    going-end h =
+        let e : at ≡ size = omega arith in
+        let n : listed (messagesFrom file at size) ≡ [] = rw e (ap listed (cut-end (length (slice size size file)) size file)) in
+        let t : to ≡ end = omega (arith, g .ends, ap (λ ms. entrySize f * length ms) n) in
+        sym (g .left ∙ rw (n, t, slice-empty end file))
 
-    abbrev m : List ℕ
-    m = messageIn (slice at size file)
+    module _ (more : at < size) where
+      record-there : recordFits (slice at size file) ≡ true
+      record-there = next-fits file at size more within (g .whole)
 
-    abbrev then : ℕ
-    then = at + cutSize (slice at size file)
+      pub record-sized : (18 ≤ cutSize (slice at size file)) × (at + cutSize (slice at size file) ≤ size)
+      record-sized = cut-sized file at size more within record-there
 
-    then-ends : to + entrySize f + entrySize f * length (listed (messagesFrom file then size)) ≡ end
-    then-ends =
-        let e : entrySize f * suc (length (listed (messagesFrom file then size))) ≡ entrySize f + entrySize f * length (listed (messagesFrom file then size)) = omega arith in
-        omega (arith, g .ends, ap (λ ms. entrySize f * length ms) (next-listed file at size more within (g .whole)))
+      abbrev m : List ℕ
+      m = messageIn (slice at size file)
 
-    pub entry-room : to + entrySize f ≤ end
-    entry-room = omega (arith, then-ends)
+      abbrev then : ℕ
+      then = at + cutSize (slice at size file)
 
-    entry-left : same (slice to end file) (indexBytes f at (listed (messagesFrom file at size)))
-        ≡ and (entryAgrees file f to at) (same (slice (to + entrySize f) end file) (indexBytes f then (listed (messagesFrom file then size))))
-    unfolding indexBytes
-    entry-left =
-        let l : length (slice to (to + entrySize f) file) ≡ length (entryBytes f at m) =
-        length-slice to (to + entrySize f) file (omega (arith, entry-room)) ∙ omega (arith, length-entry f at m) in
-        rw (
-          next-listed file at size more within (g .whole),
-          ← size-of file at size more within record-there,
-          slice-split to (to + entrySize f) end file (omega arith) entry-room,
-          same-append (slice to (to + entrySize f) file) (entryBytes f at m) (slice (to + entrySize f) end file) _ l,
-          entry-same file are f to at m (omega (arith, entry-room)) (omega (arith, record-sized)) (omega (arith, limit-fits f)) (session-there file at size more within record-there),
-        )
+      then-ends : to + entrySize f + entrySize f * length (listed (messagesFrom file then size)) ≡ end
+      then-ends = omega (arith, g .ends, ap (λ ms. entrySize f * length ms) (next-listed file at size more within (g .whole)))
 
-    pub going-no : entryAgrees file f to at ≡ false → false ≡ same (slice size end file) (indexBytes f 0 (listed (messagesTo file size)))
-    going-no e = sym (g .left ∙ entry-left ∙ rw e)
+      pub entry-room : to + entrySize f ≤ end
+      entry-room = omega (arith, then-ends)
 
-    pub going-on : entryAgrees file f to at ≡ true → Going file f size end then (to + entrySize f)
-    going-on e =
-        record {
-          under = omega (arith, record-sized);
-          whole = next-whole file at size more within (g .whole);
-          ends = then-ends;
-          left = g .left ∙ entry-left ∙ rw e;
-        }
+      module _ (are : AreBytes file) where
+        entry-left : same (slice to end file) (indexBytes f at (listed (messagesFrom file at size)))
+            ≡ and (entryAgrees file f to at) (same (slice (to + entrySize f) end file) (indexBytes f then (listed (messagesFrom file then size))))
+        unfolding indexBytes
+        entry-left =
+            let l : length (slice to (to + entrySize f) file) ≡ length (entryBytes f at m) =
+            length-slice to (to + entrySize f) file (omega (arith, entry-room)) ∙ omega (arith, length-entry f at m) in
+            rw (
+              next-listed file at size more within (g .whole),
+              ← size-of file at size more within record-there,
+              slice-split to (to + entrySize f) end file (omega arith) entry-room,
+              same-append (slice to (to + entrySize f) file) (entryBytes f at m) (slice (to + entrySize f) end file) _ l,
+              entry-same file are f to at m (omega (arith, entry-room)) (omega (arith, record-sized)) (omega (arith, limit-fits f))
+                  (session-there file at size more within record-there),
+            )
+
+        pub going-no : entryAgrees file f to at ≡ false → false ≡ same (slice size end file) (indexBytes f 0 (listed (messagesTo file size)))
+        going-no e = sym (g .left ∙ entry-left ∙ rw e)
+
+        pub going-on : entryAgrees file f to at ≡ true → (k n : ℕ) → k ≡ cutSize (slice at size file) → n ≡ entrySize f
+            → Going file f size end (at + k) (to + n)
+        going-on e k n ek en =
+            rw (ek, en)
+            (record {
+              under = record-sized .1;
+              whole = next-whole file at size more within (g .whole);
+              ends = then-ends;
+              left = g .left ∙ entry-left ∙ rw e;
+            })
