@@ -2,27 +2,68 @@
 -- Assumes nothing.
 use mathlib.Core.Path.{_≡_, refl, sym, ap, _∙_}
 use mathlib.Core.Bool.{Bool, true, false}
-use mathlib.Core.Option.{Option, none, some}
-use mathlib.Core.List.{List, [], _∷_, _++_}
+use mathlib.Core.Option.{Option, none, some, Option·none-ne-some}
+use mathlib.Core.List.{List, [], _∷_, _++_, append-assoc}
 use Prim.Native.Nat.{ℕ, zero, suc, _+_, _-_, _*_, _^_, _≤_, _<_}
 use native.Mathlib.Omega.{arith}
-use lib.ListN.{length, take, drop, take-append-drop}
-use lib.Seq.{slice, take-take, drop-drop, length-slice, slice-empty}
-use lib.Dec.{eqb}
-use borrow.Author.Tests.{le-leb, eqb-true, eq-eqb, ne-eqb}
-use Rattle.wire.specs.Choose.{and}
+use lib.ListN.{length, take, drop, length-append, take-append-drop}
+use lib.Seq.{
+  slice,
+  take-take,
+  take-length,
+  take-append-le,
+  take-append-add,
+  drop-append-add,
+  drop-drop,
+  length-take-le,
+  length-slice,
+  slice-empty,
+}
+use lib.Dec.{ltb, eqb}
+use borrow.Author.Tests.{lt-ltb, le-ltb, le-leb, eqb-true, eq-eqb, ne-eqb}
+use Rattle.wire.specs.Choose.{pick, and, or}
 use Rattle.wire.specs.Number.{AreBytes, big, numberOf, numberBytes}
 use Rattle.wire.specs.Header.{fieldAt, sessionAt, sessionOf}
 use Rattle.wire.proofs.ChooseLaws.{and-left, and-right}
-use Rattle.wire.proofs.NumberLaws.{bytes-slice, bytes-back, number-back, length-numberBytes, read-below}
+use Rattle.wire.proofs.NumberLaws.{bytes-take, bytes-slice, bytes-back, number-back, length-numberBytes, read-below}
 use Rattle.wire.proofs.PartLaws.{cut-slice}
+use Rattle.archive.specs.declared.verdict.Verdict.the-variants.{Accepted, Trailer, Records}
 use Rattle.archive.specs.declared.form.Form.{Form}
-use Rattle.archive.specs.Form.{offsetWidth, entrySize, limit, entryBytes, indexBytes}
+use Rattle.archive.specs.declared.form.Form.the-variants.{One}
+use Rattle.archive.specs.declared.records.Walked.{Walked}
+use Rattle.archive.specs.Form.{
+  formNumber,
+  formOf,
+  offsetWidth,
+  entrySize,
+  limit,
+  AreMessages,
+  recordsBytes,
+  entryBytes,
+  indexBytes,
+  trailerLen,
+  trailerBytes,
+  closingBytes,
+  fileOf,
+}
 use Rattle.archive.specs.Records.{messageIn, recordFits, before, cutAll, messagesIn, messagesTo}
-use Rattle.archive.specs.Opening.{same}
-use Rattle.archive.specs.Walking.{cutSize, isWhole, listed, sessionIn, entryAgrees}
-use Rattle.archive.proofs.FormLaws.{limit-fits}
-use Rattle.archive.proofs.RecordLaws.{turns-enough, length-entry}
+use Rattle.archive.specs.Opening.{
+  trailerAt,
+  indexAt,
+  entriesIn,
+  formIn,
+  refused,
+  holds,
+  same,
+  checked,
+  outgrows,
+  openAs,
+  archiveOf,
+  openingBy,
+}
+use Rattle.archive.specs.Walking.{cutSize, walkedFrom, isWhole, listed, sessionIn, entryAgrees, Trailed}
+use Rattle.archive.proofs.FormLaws.{number-is, entry-is, limit-is, limit-fits}
+use Rattle.archive.proofs.RecordLaws.{turns-enough, length-entry, length-index, length-file, cut-is}
 use Rattle.archive.proofs.WalkLaws.{cut-end, cut-none, cut-more, cut-sized, size-of, session-there}
 
 true-false : true ≡ false → ⊥
@@ -50,6 +91,10 @@ same-by false xs ys to from = go (same xs ys) refl
     go : (b : Bool) → same xs ys ≡ b → b ≡ false
     go true e = sym (from (same-is xs ys e))
     go false e = refl
+
+and-true : (b : Bool) → and b true ≡ b
+and-true true = refl
+and-true false = refl
 
 and-more : (a b c : Bool) → and a (and b c) ≡ and (and a b) c
 and-more true b c = refl
@@ -252,3 +297,281 @@ module _ (file : List ℕ) (f : Form) (size end : ℕ) (told : Told file f size 
               ends = then-ends;
               left = g .left ∙ entry-left ∙ rw e;
             })
+
+-- ---- fields of bytes put together
+
+pub field-behind : (xs ys : List ℕ) (k w : ℕ) → fieldAt (length xs + k) w (xs ++ ys) ≡ fieldAt k w ys
+unfolding fieldAt
+field-behind xs ys k w =
+    let e : length xs + k + w ≡ length xs + (k + w) = omega arith in
+    rw (e, take-append-add xs ys (k + w), drop-append-add xs (take (k + w) ys) k)
+
+pub field-before : (xs ys : List ℕ) (k w : ℕ) → k + w ≤ length xs → fieldAt k w (xs ++ ys) ≡ fieldAt k w xs
+unfolding fieldAt
+field-before xs ys k w h = rw (take-append-le (k + w) xs ys h)
+
+-- ---- the trailer's fields
+
+module _ (f : Form) (at n : ℕ) where
+  trailer-index : at < 256 ^ 4 → fieldAt 0 4 (trailerBytes f at n) ≡ at
+  unfolding fieldAt trailerBytes numberBytes
+  trailer-index h = number-back 4 at h
+
+  trailer-entries : n < 256 ^ 2 → fieldAt 4 2 (trailerBytes f at n) ≡ n
+  unfolding fieldAt trailerBytes numberBytes
+  trailer-entries h = number-back 2 n h
+
+  trailer-form : fieldAt 6 2 (trailerBytes f at n) ≡ formNumber f
+  unfolding fieldAt trailerBytes numberBytes
+  trailer-form = number-back 2 (formNumber f) (omega (arith, number-is f))
+
+-- a file of messages under its form's limit says so in its trailer
+module _ (f : Form) (ms : List (List ℕ)) where
+  abbrev front : List ℕ
+  front = recordsBytes ms ++ indexBytes f 0 ms
+
+  abbrev last : List ℕ
+  last = trailerBytes f (length (recordsBytes ms)) (length ms)
+
+  file-is : fileOf f ms ≡ front ++ last
+  unfolding fileOf closingBytes
+  file-is = sym (append-assoc (recordsBytes ms) (indexBytes f 0 ms) last)
+
+  front-long : length front ≡ trailerAt (fileOf f ms)
+  front-long = omega (arith, length-file f ms, length-append (recordsBytes ms) (indexBytes f 0 ms), length-index f 0 ms)
+
+  trailer-field : (k w : ℕ) → fieldAt (trailerAt (fileOf f ms) + k) w (fileOf f ms) ≡ fieldAt k w last
+  trailer-field k w = rw (← front-long, file-is) (field-behind front last k w)
+
+  pub file-form : formIn (fileOf f ms) ≡ formNumber f
+  file-form = trailer-field 6 2 ∙ trailer-form f (length (recordsBytes ms)) (length ms)
+
+  module _ (small : length (fileOf f ms) ≤ limit f) where
+    sized : length (recordsBytes ms) + 4 * length ms + 8 ≤ 65535
+    sized =
+        let e : entrySize f * length ms ≡ 4 * length ms = ap (_* length ms) (sym (entry-is f)) in
+        omega (arith, limit-is f, length-file f ms)
+
+    pub file-index : indexAt (fileOf f ms) ≡ length (recordsBytes ms)
+    file-index =
+        let e : trailerAt (fileOf f ms) + 0 ≡ trailerAt (fileOf f ms) = omega arith in
+        rw e at (trailer-field 0 4) ∙ trailer-index f (length (recordsBytes ms)) (length ms) (omega (arith, sized))
+
+    pub file-entries : entriesIn (fileOf f ms) ≡ length ms
+    file-entries = trailer-field 4 2 ∙ trailer-entries f (length (recordsBytes ms)) (length ms) (omega (arith, sized))
+
+-- ---- 52
+
+pub form-back : (k : ℕ) (f : Form) → formOf k ≡ some f → k ≡ formNumber f
+form-back k One e = eqb-true k 1 (go (eqb k 1) e)
+  where
+    go : (b : Bool) → pick b (some One) none ≡ some One → b ≡ true
+    go true q = refl
+    go false q = absurd (Option·none-ne-some One q)
+
+whole-some : (r : Option (List (List ℕ))) → isWhole r ≡ true → r ≡ some (listed r)
+whole-some none e = absurd (true-false (sym e))
+whole-some (some ms) e = refl
+
+walked-whole : (r : Option (List (List ℕ))) → (walkedFrom 0 r) .whole ≡ isWhole r
+walked-whole none = refl
+walked-whole (some ms) = refl
+
+walked-count : (r : Option (List (List ℕ))) → (walkedFrom 0 r) .count ≡ length (listed r)
+walked-count none = refl
+walked-count (some ms) = omega arith
+
+module _ (file : List ℕ) (are : AreBytes file) where
+  -- the bytes of a field are those of its number
+  field-bytes : (at w : ℕ) → at + w ≤ length file → numberBytes big w (fieldAt at w file) ≡ slice at (at + w) file
+  unfolding fieldAt
+  field-bytes at w h =
+      let l : length (slice at (at + w) file) ≡ w = length-slice at (at + w) file h ∙ omega arith in
+      rw l at (bytes-back (slice at (at + w) file) (bytes-slice at (at + w) file are))
+
+  -- whole records of messages are theirs
+  pub records-are : (size : ℕ) (ms : List (List ℕ)) → size ≤ length file → messagesTo file size ≡ some ms
+      → (take size file ≡ recordsBytes ms) × AreMessages ms
+  unfolding messagesTo
+  records-are size ms h e = cut-is (take size file) ms (bytes-take size file are) (rw (le-leb size (length file) h) at e)
+
+  module _ (f : Form) (size n end : ℕ) (t : Trailed file f size n end) where
+    inside : size ≤ length file
+    inside = omega (arith, t .index-in, t .whole)
+
+    trailer-is : drop end file ≡ trailerBytes f size n
+    unfolding trailerBytes
+    trailer-is =
+        let w = t .whole in
+        let a : trailerAt file ≡ end = omega arith in
+        let four = field-bytes end 4 (omega arith) in
+        let two = field-bytes (end + 4) 2 (omega arith) in
+        let more = field-bytes (end + 6) 2 (omega arith) in
+        let e₁ : end + 4 + 2 ≡ end + 6 = omega arith in
+        let e₂ : end + 6 + 2 ≡ length file = omega arith in
+        rw (
+          t .size-is,
+          t .entries-are,
+          ← form-back (formIn file) f (t .form-is),
+          a,
+          four,
+          two,
+          more,
+          e₁,
+          e₂,
+          ← slice-split (end + 4) (end + 6) (length file) file (omega arith) (omega arith),
+          ← slice-split end (end + 4) (length file) file (omega arith) (omega arith),
+          take-length file,
+        )
+
+    module _ (ms : List (List ℕ)) (is : messagesTo file size ≡ some ms) where
+      records-long : length (recordsBytes ms) ≡ size
+      records-long = sym (ap length (records-are size ms inside is .0)) ∙ length-take-le size file inside
+
+      count-other : (length ms ≡ n → ⊥) → same file (fileOf f ms) ≡ false
+      count-other other =
+          same-by false file (fileOf f ms) (λ q. absurd (true-false (sym q)))
+          (λ q. absurd (other (sym (t .entries-are ∙ ap entriesIn q ∙ file-entries f ms (rw q at (t .most))))))
+
+      end-other : length ms ≡ n → (size + entrySize f * n ≡ end → ⊥) → same file (fileOf f ms) ≡ false
+      end-other en other =
+          same-by false file (fileOf f ms) (λ q. absurd (true-false (sym q)))
+          (λ q. absurd (other (let l = ap length q ∙ length-file f ms in let m : entrySize f * length ms ≡ entrySize f * n = rw en in omega (arith, records-long, t .whole))))
+
+      file-cut : file ≡ recordsBytes ms ++ (slice size end file ++ trailerBytes f size n)
+      file-cut =
+          let s = rw (take-length file) at (slice-split size end (length file) file (omega (arith, t .index-in)) (omega (arith, t .whole))) in
+          sym (take-append-drop size file) ∙ rw (records-are size ms inside is .0, s, trailer-is)
+
+      index-decides : length ms ≡ n → size + entrySize f * n ≡ end → same file (fileOf f ms) ≡ same (slice size end file) (indexBytes f 0 ms)
+      unfolding fileOf closingBytes
+      index-decides en ends =
+          let m : entrySize f * length ms ≡ entrySize f * n = rw en in
+          let l : length (slice size end file) ≡ length (indexBytes f 0 ms) =
+          length-slice size end file (omega (arith, t .whole)) ∙ omega (arith, length-index f 0 ms) in
+          let last = trailerBytes f size n in
+          ap (λ x. same x (fileOf f ms)) file-cut
+          ∙ rw (
+            records-long,
+            en,
+            same-append (recordsBytes ms) (recordsBytes ms) (slice size end file ++ last) (indexBytes f 0 ms ++ last) refl,
+            is-same (recordsBytes ms),
+            same-append (slice size end file) (indexBytes f 0 ms) last last l,
+            is-same last,
+          )
+          (and-true (same (slice size end file) (indexBytes f 0 ms)))
+
+    -- as the code goes
+    module _ (w : Walked) (ew : w ≡ walkedFrom 0 (messagesTo file size)) where
+      abbrev r : Option (List (List ℕ))
+      r = messagesTo file size
+
+      torn : (r : Option (List (List ℕ))) → isWhole r ≡ false → openingBy (refused Records) ≡ openingBy (checked file f r)
+      torn none e = refl
+      torn (some ms) e = absurd (true-false e)
+
+      pub check-torn : w .whole ≡ false → openingBy (refused Records) ≡ openingBy (checked file f r)
+      check-torn e = torn r (sym (walked-whole r) ∙ ap (λ (x : Walked). x .whole) (sym ew) ∙ e)
+
+      module _ (whole : w .whole ≡ true) where
+        is : r ≡ some (listed r)
+        is = whole-some r (sym (walked-whole r) ∙ ap (λ (x : Walked). x .whole) (sym ew) ∙ whole)
+
+        found : (b : Bool) → same file (fileOf f (listed r)) ≡ b → openingBy (checked file f r) ≡ openingBy (pick b (holds f (listed r)) (refused Records))
+        found b e = ap (λ x. openingBy (checked file f x)) is ∙ rw e
+
+        counted : w .count ≡ length (listed r)
+        counted = ap (λ (x : Walked). x .count) ew ∙ walked-count r
+
+        pub check-count : (w .count ≡ n → ⊥) → openingBy (refused Records) ≡ openingBy (checked file f r)
+        check-count other = sym (found false (count-other (listed r) is (λ e. other (counted ∙ e))))
+
+        module _ (count : w .count ≡ n) (e : ℕ) (ee : e ≡ entrySize f) where
+          pub check-end : (size + e * n ≡ end → ⊥) → openingBy (refused Records) ≡ openingBy (checked file f r)
+          check-end other = sym (found false (end-other (listed r) is (sym counted ∙ count) (λ q. other (rw ee q))))
+
+          module _ (ends : size + e * n ≡ end) where
+            ends-as : size + entrySize f * n ≡ end
+            ends-as = rw ee at ends
+
+            pub check-told : Told file f size end
+            check-told =
+                let m : entrySize f * length (listed r) ≡ entrySize f * n = rw (← counted, count) in
+                (rw is, omega (arith, t .most, inside), omega (arith, ends-as), omega (arith, t .whole))
+
+            module _ (b : Bool) (eb : b ≡ same (slice size end file) (indexBytes f 0 (listed r))) where
+              decided : same file (fileOf f (listed r)) ≡ b
+              decided = index-decides (listed r) is (sym counted ∙ count) ends-as ∙ sym eb
+
+              pub check-index : b ≡ false → openingBy (refused Records) ≡ openingBy (checked file f r)
+              check-index e = sym (found false (decided ∙ e))
+
+              pub check-all : b ≡ true → record { verdict = Accepted; size = size; entries = n } ≡ openingBy (checked file f r)
+              check-all e = sym (found true (decided ∙ e) ∙ rw (records-long (listed r) is, ← counted, count))
+
+-- ---- 51, as the code goes
+
+form-of : (f : Form) → formOf (formNumber f) ≡ some f
+form-of One = refl
+
+form-none : (f : Form) (k : ℕ) → (k ≡ formNumber f → ⊥) → formOf k ≡ none
+form-none One k other = rw (ne-eqb k 1 other)
+
+or-none : (a b : Bool) → a ≡ false → b ≡ false → or a b ≡ false
+or-none a b ea eb = rw (ea, eb)
+
+or-last : (a b : Bool) → b ≡ true → or a b ≡ true
+or-last true b e = refl
+or-last false b e = e
+
+module _ (file : List ℕ) where
+  pub open-short : length file < trailerLen → openingBy (refused Trailer) ≡ openingBy (archiveOf file)
+  unfolding archiveOf
+  open-short h = rw (lt-ltb (length file) trailerLen h)
+
+  module _ (long : trailerLen ≤ length file) (f : Form) (v k : ℕ) (ev : v ≡ formIn file) (ek : k ≡ formNumber f) where
+    as-form : (o : Option Form) → formOf (formIn file) ≡ o → archiveOf file ≡ openAs file o
+    unfolding archiveOf
+    as-form o e = rw (le-ltb (length file) trailerLen long, e)
+
+    pub open-other : (v ≡ k → ⊥) → openingBy (refused Trailer) ≡ openingBy (archiveOf file)
+    open-other other = ap openingBy (sym (as-form none (form-none f (formIn file) (λ q. other (ev ∙ q ∙ sym ek)))))
+
+    module _ (form : v ≡ k) (m : ℕ) (em : m ≡ limit f) where
+      form-is : formOf (formIn file) ≡ some f
+      form-is = rw (← ev, form, ek) (form-of f)
+
+      outgrown : (b : Bool) → outgrows file f ≡ b → openingBy (archiveOf file) ≡ openingBy (pick b (refused Trailer) (checked file f (messagesTo file (indexAt file))))
+      outgrown b e = ap openingBy (as-form (some f) form-is) ∙ rw e
+
+      pub open-large : m < length file → openingBy (refused Trailer) ≡ openingBy (archiveOf file)
+      unfolding outgrows
+      open-large h = sym (outgrown true (rw (← em, lt-ltb m (length file) h)))
+
+      module _ (small : length file ≤ m) (at n e : ℕ) (ea : at ≡ indexAt file) (en : n ≡ entriesIn file) (ee : e ≡ entrySize f) where
+        pub open-past : trailerAt file < at + e * n → openingBy (refused Trailer) ≡ openingBy (archiveOf file)
+        unfolding outgrows
+        open-past h =
+            let p : ltb (trailerAt file) (indexAt file + entrySize f * entriesIn file) ≡ true
+            = rw (← ea, ← en, ← ee) (lt-ltb (trailerAt file) (at + e * n) h) in
+            sym (outgrown true (or-last (ltb (limit f) (length file)) _ p))
+
+        module _ (ends : at + e * n ≤ trailerAt file) where
+          pub open-trailed : Trailed file f at n (trailerAt file)
+          open-trailed =
+              record {
+                whole = omega arith;
+                size-is = ea;
+                entries-are = en;
+                form-is = form-is;
+                index-in = rw ee at ends;
+                most = rw em at small;
+              }
+
+          pub open-checked : openingBy (checked file f (messagesTo file at)) ≡ openingBy (archiveOf file)
+          unfolding outgrows
+          open-checked =
+              let p : ltb (trailerAt file) (indexAt file + entrySize f * entriesIn file) ≡ false
+              = rw (← ea, ← en, ← ee) (le-ltb (trailerAt file) (at + e * n) ends) in
+              let l : ltb (limit f) (length file) ≡ false = rw (← em) (le-ltb m (length file) small) in
+              rw ea (sym (outgrown false (or-none _ _ l p)))
