@@ -20,17 +20,19 @@ use lib.Seq.{
   slice-empty,
 }
 use lib.Dec.{ltb, eqb}
-use borrow.Author.Tests.{lt-ltb, le-ltb, le-leb, eqb-true, eq-eqb, ne-eqb}
+use borrow.Author.Tests.{lt-ltb, le-ltb, ltb-false, le-leb, eqb-true, eq-eqb, ne-eqb}
 use Rattle.wire.specs.Choose.{pick, and, or}
 use Rattle.wire.specs.Number.{AreBytes, big, numberOf, numberBytes}
 use Rattle.wire.specs.Header.{fieldAt, sessionAt, sessionOf}
 use Rattle.wire.proofs.ChooseLaws.{and-left, and-right}
 use Rattle.wire.proofs.NumberLaws.{bytes-take, bytes-slice, bytes-back, number-back, length-numberBytes, read-below}
 use Rattle.wire.proofs.PartLaws.{cut-slice}
+use Rattle.archive.specs.declared.verdict.Verdict.{Verdict}
 use Rattle.archive.specs.declared.verdict.Verdict.the-variants.{Accepted, Trailer, Records}
 use Rattle.archive.specs.declared.form.Form.{Form}
 use Rattle.archive.specs.declared.form.Form.the-variants.{One}
 use Rattle.archive.specs.declared.records.Walked.{Walked}
+use Rattle.archive.specs.Verdict.{verdictNumber}
 use Rattle.archive.specs.Form.{
   formNumber,
   formOf,
@@ -511,6 +513,9 @@ module _ (file : List ℕ) (are : AreBytes file) where
 
 -- ---- 51, as the code goes
 
+pub one-form : (f g : Form) → f ≡ g
+one-form One One = refl
+
 form-of : (f : Form) → formOf (formNumber f) ≡ some f
 form-of One = refl
 
@@ -575,3 +580,84 @@ module _ (file : List ℕ) where
               = rw (← ea, ← en, ← ee) (le-ltb (trailerAt file) (at + e * n) ends) in
               let l : ltb (limit f) (length file) ≡ false = rw (← em) (le-ltb m (length file) small) in
               rw ea (sym (outgrown false (or-none _ _ l p)))
+
+-- ---- what an opened file holds
+
+refused-holds : (v : Verdict) (f : Form) (ms : List (List ℕ)) → refused v ≡ holds f ms → ⊥
+refused-holds v f ms e = let z : _≡_ {A = ℕ} 0 1 = cc in omega arith
+
+-- the file of messages, under its form's limit
+pub record Holding (file : List ℕ) (f : Form) (ms : List (List ℕ)) : Type 0 where
+  pub file-is : file ≡ fileOf f ms
+  pub messages : AreMessages ms
+  pub most : length file ≤ limit f
+
+pub open-holds : (file : List ℕ) → AreBytes file → (f : Form) (ms : List (List ℕ)) → archiveOf file ≡ holds f ms → Holding file f ms
+unfolding archiveOf outgrows
+open-holds file are f ms e = short (ltb (length file) trailerLen) e
+  where
+    all : (ns : List (List ℕ)) (b : Bool) → messagesTo file (indexAt file) ≡ some ns → indexAt file ≤ length file → length file ≤ limit f
+        → same file (fileOf f ns) ≡ b → pick b (holds f ns) (refused Records) ≡ holds f ms → Holding file f ms
+    all ns false en h l es q = absurd (refused-holds Records f ms q)
+    all ns true en h l es q =
+        let n : ns ≡ ms = cc in
+        record { file-is = rw (← n) (same-is file (fileOf f ns) es); messages = rw (← n) (records-are file are (indexAt file) ns h en .1); most = l }
+
+    whole : (r : Option (List (List ℕ))) → messagesTo file (indexAt file) ≡ r → indexAt file ≤ length file → length file ≤ limit f
+        → checked file f r ≡ holds f ms → Holding file f ms
+    whole none er h l q = absurd (refused-holds Records f ms q)
+    whole (some ns) er h l q = all ns (same file (fileOf f ns)) er h l refl q
+
+    grown : (a b : Bool) → ltb (limit f) (length file) ≡ a → ltb (trailerAt file) (indexAt file + entrySize f * entriesIn file) ≡ b
+        → pick (or a b) (refused Trailer) (checked file f (messagesTo file (indexAt file))) ≡ holds f ms → Holding file f ms
+    grown true b ea eb q = absurd (refused-holds Trailer f ms q)
+    grown false true ea eb q = absurd (refused-holds Trailer f ms q)
+    grown false false ea eb q =
+        whole (messagesTo file (indexAt file)) refl (omega (arith, ltb-false)) (omega (arith, ltb-false)) q
+
+    formed : (o : Option Form) → openAs file o ≡ holds f ms → Holding file f ms
+    formed none q = absurd (refused-holds Trailer f ms q)
+    formed (some g) q =
+        let n : g ≡ f = one-form g f in
+        grown (ltb (limit f) (length file)) (ltb (trailerAt file) (indexAt file + entrySize f * entriesIn file)) refl refl (rw n at q)
+
+    short : (b : Bool) → pick b (refused Trailer) (openAs file (formOf (formIn file))) ≡ holds f ms → Holding file f ms
+    short true q = absurd (refused-holds Trailer f ms q)
+    short false q = formed (formOf (formIn file)) q
+
+-- a refusal has a number above 0
+pub refused-why : (file : List ℕ) (v : Verdict) → archiveOf file ≡ refused v → verdictNumber v ≡ 0 → ⊥
+unfolding archiveOf
+refused-why file v e = short (ltb (length file) trailerLen) e
+  where
+    holds-not : (f : Form) (ms : List (List ℕ)) → holds f ms ≡ refused v → ⊥
+    holds-not f ms q = refused-holds v f ms (sym q)
+
+    by : (u : Verdict) → (verdictNumber u ≡ 0 → ⊥) → refused u ≡ refused v → verdictNumber v ≡ 0 → ⊥
+    by u h q z = let n : u ≡ v = cc in h (rw n z)
+
+    not-trailer : refused Trailer ≡ refused v → verdictNumber v ≡ 0 → ⊥
+    not-trailer = by Trailer (λ z. omega arith)
+
+    not-records : refused Records ≡ refused v → verdictNumber v ≡ 0 → ⊥
+    not-records = by Records (λ z. omega arith)
+
+    all : (f : Form) (ms : List (List ℕ)) (b : Bool) → pick b (holds f ms) (refused Records) ≡ refused v → verdictNumber v ≡ 0 → ⊥
+    all f ms true q = absurd (holds-not f ms q)
+    all f ms false q = not-records q
+
+    whole : (f : Form) (r : Option (List (List ℕ))) → checked file f r ≡ refused v → verdictNumber v ≡ 0 → ⊥
+    whole f none q = not-records q
+    whole f (some ms) q = all f ms (same file (fileOf f ms)) q
+
+    grown : (f : Form) (b : Bool) → pick b (refused Trailer) (checked file f (messagesTo file (indexAt file))) ≡ refused v → verdictNumber v ≡ 0 → ⊥
+    grown f true q = not-trailer q
+    grown f false q = whole f (messagesTo file (indexAt file)) q
+
+    formed : (o : Option Form) → openAs file o ≡ refused v → verdictNumber v ≡ 0 → ⊥
+    formed none q = not-trailer q
+    formed (some f) q = grown f (outgrows file f) q
+
+    short : (b : Bool) → pick b (refused Trailer) (openAs file (formOf (formIn file))) ≡ refused v → verdictNumber v ≡ 0 → ⊥
+    short true q = not-trailer q
+    short false q = formed (formOf (formIn file)) q

@@ -1,0 +1,304 @@
+-- Where an opened file has its entries and records, and reading and finding in it, as the code goes.
+-- Assumes nothing.
+use mathlib.Core.Path.{_≡_, refl, sym, ap, subst, _∙_}
+use mathlib.Core.Bool.{Bool, true, false}
+use mathlib.Core.List.{List, [], _∷_, _++_, append-assoc}
+use Prim.Native.Nat.{ℕ, zero, suc, _+_, _-_, _*_, _^_, _≤_, _<_}
+use native.Mathlib.Omega.{arith}
+use lib.ListN.{length, take, drop, getD, length-append, drop-of-length-le}
+use lib.Seq.{take-at, drop-cons}
+use lib.Dec.{ltb, eqb}
+use borrow.Author.Tests.{lt-ltb, le-ltb, eq-eqb, ne-eqb}
+use Rattle.wire.specs.Choose.{pick}
+use Rattle.wire.specs.Number.{AreBytes, big, numberBytes}
+use Rattle.wire.specs.Part.{part}
+use Rattle.wire.specs.Header.{fieldAt, sessionAt, sessionOf}
+use Rattle.wire.proofs.NumberLaws.{bytes-left, bytes-right, number-back, length-numberBytes, read-below}
+use Rattle.archive.specs.declared.verdict.Verdict.{Verdict}
+use Rattle.archive.specs.declared.verdict.Verdict.the-variants.{Accepted, NoRecord}
+use Rattle.archive.specs.declared.form.Form.{Form}
+use Rattle.archive.specs.declared.open.Opening.{Opening}
+use Rattle.archive.specs.declared.find.Found.{Found}
+use Rattle.archive.specs.Verdict.{verdictNumber}
+use Rattle.archive.specs.Form.{
+  offsetWidth,
+  entrySize,
+  limit,
+  messageFits,
+  AreMessages,
+  recordBytes,
+  recordSize,
+  recordsBytes,
+  entryBytes,
+  indexBytes,
+  trailerBytes,
+  closingBytes,
+  fileOf,
+}
+use Rattle.archive.specs.Opening.{Archive, refused, holds, archiveOf, openingBy}
+use Rattle.archive.specs.Finding.{messageAt, offsetAt, noneFound, readingBy, counted, firstOf, firstIn}
+use Rattle.archive.specs.Walking.{Opened}
+use Rattle.archive.proofs.FormLaws.{width-is, entry-is, limit-is, limit-fits}
+use Rattle.archive.proofs.RecordLaws.{length-record, length-entry, length-file, message-least, message-most}
+use Rattle.archive.proofs.OpenLaws.{field-behind, field-before, one-form, Holding, open-holds, refused-why}
+
+-- ---- an index entry's fields
+
+module _ (f : Form) (at : ℕ) (m : List ℕ) where
+  entry-offset : at < 256 ^ offsetWidth f → fieldAt 0 (offsetWidth f) (entryBytes f at m) ≡ at
+  unfolding entryBytes fieldAt
+  entry-offset h =
+      let w = offsetWidth f in
+      let e : 0 + w ≡ w = omega arith in
+      rw (e, take-at (numberBytes big w at) (numberBytes big 2 (sessionOf m)) w (length-numberBytes w at)) (number-back w at h)
+
+  session-first : sessionOf m < 256 ^ 2 → fieldAt 0 2 (numberBytes big 2 (sessionOf m)) ≡ sessionOf m
+  unfolding fieldAt numberBytes
+  session-first h = number-back 2 (sessionOf m) h
+
+  entry-session : sessionOf m < 256 ^ 2 → fieldAt (offsetWidth f) 2 (entryBytes f at m) ≡ sessionOf m
+  unfolding entryBytes
+  entry-session h =
+      let w = offsetWidth f in
+      let e : length (numberBytes big w at) + 0 ≡ w = omega (arith, length-numberBytes w at) in
+      rw e at (field-behind (numberBytes big w at) (numberBytes big 2 (sessionOf m)) 0 2) ∙ session-first h
+
+-- the entry that i entries precede, where the first record stands at `at`
+index-field : (f : Form) (at : ℕ) (ms : List (List ℕ)) (rest : List ℕ) (i k w : ℕ) → i < length ms → k + w ≤ entrySize f
+    → fieldAt (entrySize f * i + k) w (indexBytes f at ms ++ rest) ≡ fieldAt k w (entryBytes f (at + offsetAt ms i) (messageAt ms i))
+unfolding indexBytes recordsBytes
+index-field f at [] rest i k w h l = absurd (omega arith)
+index-field f at (m ∷ ms) rest zero k w h l =
+    let e : entrySize f * 0 + k ≡ k = omega arith in
+    let z : at + 0 ≡ at = omega arith in
+    rw (e, z, append-assoc (entryBytes f at m) (indexBytes f (at + recordSize m) ms) rest)
+    (field-before (entryBytes f at m) (indexBytes f (at + recordSize m) ms ++ rest) k w (omega (arith, length-entry f at m)))
+index-field f at (m ∷ ms) rest (suc i) k w h l =
+    let e : entrySize f * suc i + k ≡ length (entryBytes f at m) + (entrySize f * i + k) = omega (arith, length-entry f at m) in
+    let z : at + length (recordBytes m ++ recordsBytes (take i ms)) ≡ at + recordSize m + offsetAt ms i =
+    omega (arith, length-append (recordBytes m) (recordsBytes (take i ms)), length-record m) in
+    rw (e, z, append-assoc (entryBytes f at m) (indexBytes f (at + recordSize m) ms) rest)
+    (field-behind (entryBytes f at m) (indexBytes f (at + recordSize m) ms ++ rest) (entrySize f * i + k) w
+    ∙ index-field f (at + recordSize m) ms rest i k w (omega arith) l)
+
+-- ---- a record's place
+
+message-fits : (ms : List (List ℕ)) (i : ℕ) → AreMessages ms → i < length ms → messageFits (messageAt ms i) ≡ true
+message-fits [] i a h = absurd (omega arith)
+message-fits (m ∷ ms) zero a h = a .0
+message-fits (m ∷ ms) (suc i) a h = message-fits ms i (a .1) (omega arith)
+
+message-bytes : (ms : List (List ℕ)) (i : ℕ) → AreBytes (recordsBytes ms) → i < length ms → AreBytes (messageAt ms i)
+unfolding recordsBytes recordBytes
+message-bytes [] i b h = absurd (omega arith)
+message-bytes (m ∷ ms) zero b h = bytes-right (numberBytes big 2 (length m)) m (bytes-left (recordBytes m) (recordsBytes ms) b)
+message-bytes (m ∷ ms) (suc i) b h = message-bytes ms i (bytes-right (recordBytes m) (recordsBytes ms) b) (omega arith)
+
+record-in : (ms : List (List ℕ)) (i : ℕ) → i < length ms → offsetAt ms i + recordSize (messageAt ms i) ≤ length (recordsBytes ms)
+unfolding recordsBytes
+record-in [] i h = absurd (omega arith)
+record-in (m ∷ ms) zero h = omega (arith, length-append (recordBytes m) (recordsBytes ms), length-record m)
+record-in (m ∷ ms) (suc i) h =
+    omega (
+      arith,
+      length-append (recordBytes m) (recordsBytes ms),
+      length-append (recordBytes m) (recordsBytes (take i ms)),
+      record-in ms i (omega arith),
+    )
+
+length-first : (m rest : List ℕ) → messageFits m ≡ true → fieldAt 0 2 (recordBytes m ++ rest) ≡ length m
+unfolding fieldAt recordBytes numberBytes
+length-first m rest h = number-back 2 (length m) (omega (arith, message-most m h))
+
+-- the length that a record begins with
+record-length : (ms : List (List ℕ)) (rest : List ℕ) (i : ℕ) → AreMessages ms → i < length ms
+    → fieldAt (offsetAt ms i) 2 (recordsBytes ms ++ rest) ≡ length (messageAt ms i)
+unfolding recordsBytes
+record-length [] rest i a h = absurd (omega arith)
+record-length (m ∷ ms) rest zero a h =
+    rw (append-assoc (recordBytes m) (recordsBytes ms) rest) (length-first m (recordsBytes ms ++ rest) (a .0))
+record-length (m ∷ ms) rest (suc i) a h =
+    let z : length (recordBytes m ++ recordsBytes (take i ms)) ≡ length (recordBytes m) + offsetAt ms i =
+    length-append (recordBytes m) (recordsBytes (take i ms)) in
+    rw (z, append-assoc (recordBytes m) (recordsBytes ms) rest)
+    (field-behind (recordBytes m) (recordsBytes ms ++ rest) (offsetAt ms i) 2 ∙ record-length ms rest i (a .1) (omega arith))
+
+-- ---- the fields of a file of messages
+
+module _ (f : Form) (ms : List (List ℕ)) (a : AreMessages ms) (are : AreBytes (fileOf f ms)) (small : length (fileOf f ms) ≤ limit f) (i : ℕ)
+    (h : i < length ms) where
+  small-offset : offsetAt ms i < 256 ^ offsetWidth f
+  small-offset = omega (arith, record-in ms i h, length-file f ms, limit-fits f)
+
+  small-session : sessionOf (messageAt ms i) < 256 ^ 2
+  unfolding fieldAt fileOf
+  small-session =
+      read-below (messageAt ms i) sessionAt 2 (omega (arith, message-least (messageAt ms i) (message-fits ms i a h)))
+      (message-bytes ms i (bytes-left (recordsBytes ms) (closingBytes f ms) are) h)
+
+  index-at : (k w : ℕ) → k + w ≤ entrySize f
+      → fieldAt (length (recordsBytes ms) + (entrySize f * i + k)) w (fileOf f ms) ≡ fieldAt k w (entryBytes f (offsetAt ms i) (messageAt ms i))
+  unfolding fileOf closingBytes
+  index-at k w l =
+      let z : 0 + offsetAt ms i ≡ offsetAt ms i = omega arith in
+      field-behind (recordsBytes ms) (closingBytes f ms) (entrySize f * i + k) w ∙ rw z at (index-field f 0 ms (trailerBytes f (length (recordsBytes ms)) (length ms)) i k w h l)
+
+  file-offset : fieldAt (length (recordsBytes ms) + entrySize f * i) (offsetWidth f) (fileOf f ms) ≡ offsetAt ms i
+  file-offset =
+      let e : length (recordsBytes ms) + (entrySize f * i + 0) ≡ length (recordsBytes ms) + entrySize f * i = omega arith in
+      rw e at (index-at 0 (offsetWidth f) (omega arith)) ∙ entry-offset f (offsetAt ms i) (messageAt ms i) small-offset
+
+  file-session : fieldAt (length (recordsBytes ms) + entrySize f * i + offsetWidth f) 2 (fileOf f ms) ≡ sessionOf (messageAt ms i)
+  file-session =
+      let w = offsetWidth f in
+      let e : length (recordsBytes ms) + (entrySize f * i + w) ≡ length (recordsBytes ms) + entrySize f * i + w = omega arith in
+      rw e at (index-at w 2 (omega arith)) ∙ entry-session f (offsetAt ms i) (messageAt ms i) small-session
+
+  file-length : fieldAt (offsetAt ms i) 2 (fileOf f ms) ≡ length (messageAt ms i)
+  unfolding fileOf
+  file-length = record-length ms (closingBytes f ms) i a h
+
+-- ---- what the answer to opening says
+
+-- the messages of an archive
+abbrev pub heldBy : Archive → List (List ℕ)
+heldBy (refused v) = []
+heldBy (holds f ms) = ms
+
+module _ (file : List ℕ) (o : Opening) (eo : o ≡ openingBy (archiveOf file)) where
+  pub held-count : o .entries ≡ length (heldBy (archiveOf file))
+  held-count = ap (λ (x : Opening). x .entries) eo ∙ go (archiveOf file)
+    where
+      go : (a : Archive) → (openingBy a) .entries ≡ length (heldBy a)
+      go (refused v) = refl
+      go (holds f ms) = refl
+
+  opened-as : (a : Archive) → o ≡ openingBy a → ((v : Verdict) → a ≡ refused v → ⊥)
+      → openingBy a ≡ record { verdict = Accepted; size = o .size; entries = o .entries }
+  opened-as (refused v) e h = absurd (h v refl)
+  opened-as (holds f ms) e h = rw e
+
+  -- some entries, or verdict 0: the file was opened
+  pub opened-some : 0 < o .entries → Opened file (o .size) (o .entries)
+  opened-some h = opened-as (archiveOf file) eo (λ v e. let z = ap (λ (x : Opening). x .entries) (eo ∙ ap openingBy e) in omega arith)
+
+  pub opened-zero : verdictNumber (o .verdict) ≡ 0 → Opened file (o .size) (o .entries)
+  opened-zero h =
+      opened-as (archiveOf file) eo
+      (λ v e. refused-why file v e (sym (ap (λ (x : Opening). verdictNumber (x .verdict)) (eo ∙ ap openingBy e)) ∙ h))
+
+  -- any other verdict is shown
+  pub shown-refused : (n : ℕ) → (verdictNumber (o .verdict) ≡ 0 → ⊥) → noneFound (o .verdict) ≡ readingBy n (archiveOf file)
+  shown-refused n h = go (archiveOf file) eo
+    where
+      go : (a : Archive) → o ≡ openingBy a → noneFound (o .verdict) ≡ readingBy n a
+      go (refused v) e = rw e
+      go (holds f ms) e = absurd (h (ap (λ (x : Opening). verdictNumber (x .verdict)) e))
+
+held : (f : Form) (a : Archive) (size n : ℕ) → ((v : Verdict) → a ≡ refused v → verdictNumber v ≡ 0 → ⊥)
+    → openingBy a ≡ record { verdict = Accepted; size = size; entries = n }
+    → (a ≡ holds f (heldBy a)) × (size ≡ length (recordsBytes (heldBy a))) × (n ≡ length (heldBy a))
+held f (refused v) size n why e = absurd (why v refl (ap (λ (o : Opening). verdictNumber (o .verdict)) e))
+held f (holds g ms) size n why e =
+    (ap (λ x. holds x ms) (one-form g f), sym (ap (λ (o : Opening). o .size) e), sym (ap (λ (o : Opening). o .entries) e))
+
+module _ (file : List ℕ) (f : Form) (size count : ℕ) (o : Opened file size count) where
+  abbrev ms : List (List ℕ)
+  ms = heldBy (archiveOf file)
+
+  is : (archiveOf file ≡ holds f ms) × (size ≡ length (recordsBytes ms)) × (count ≡ length ms)
+  is = held f (archiveOf file) size count (refused-why file) o
+
+  pub shown-zero : noneFound NoRecord ≡ readingBy 0 (archiveOf file)
+  shown-zero = sym (ap (readingBy 0) (is .0))
+
+  pub shown-past : (n : ℕ) → count < n → noneFound NoRecord ≡ readingBy n (archiveOf file)
+  shown-past zero h = absurd (omega arith)
+  shown-past (suc i) h = sym (ap (readingBy (suc i)) (is .0) ∙ rw (le-ltb i (length ms) (omega (arith, is .2))))
+
+  pub shown-nth : (n at len : ℕ) → 0 < n → n ≤ count → at ≡ offsetAt ms (n - 1) → len ≡ length (messageAt ms (n - 1))
+      → record { verdict = Accepted; number = n; message = part (at + 2) len } ≡ readingBy n (archiveOf file)
+  shown-nth zero at len h l ea el = absurd (omega arith)
+  shown-nth (suc i) at len h l ea el =
+      let e : suc i - 1 ≡ i = omega arith in
+      rw (ea, el, e) (sym (ap (readingBy (suc i)) (is .0) ∙ rw (lt-ltb i (length ms) (omega (arith, is .2)))))
+
+  module _ (are : AreBytes file) where
+    whole : Holding file f ms
+    whole = open-holds file are f ms (is .0)
+
+    module _ (i : ℕ) (h : i < count) where
+      there : i < length ms
+      there = omega (arith, is .2)
+
+      in-file : {A : Type 0} (g : List ℕ → A) (x : A) → g (fileOf f ms) ≡ x → g file ≡ x
+      in-file g x e = ap g (whole .file-is) ∙ e
+
+      are-file : AreBytes (fileOf f ms)
+      are-file = subst AreBytes (whole .file-is) are
+
+      most-file : length (fileOf f ms) ≤ limit f
+      most-file = subst (λ x. length x ≤ limit f) (whole .file-is) (whole .most)
+
+      file-long : length file ≡ size + entrySize f * count + 8
+      file-long = ap length (whole .file-is) ∙ length-file f ms ∙ rw (is .1, is .2)
+
+      -- the entry that i entries precede
+      pub entry-in : size + entrySize f * i + entrySize f ≤ length file
+      entry-in =
+          let a : entrySize f * i ≡ 4 * i = ap (_* i) (sym (entry-is f)) in
+          let b : entrySize f * count ≡ 4 * count = ap (_* count) (sym (entry-is f)) in
+          omega (arith, file-long, entry-is f)
+
+      pub offset-is : fieldAt (size + entrySize f * i) (offsetWidth f) file ≡ offsetAt ms i
+      offset-is = rw (is .1) (in-file (fieldAt _ _) _ (file-offset f ms (whole .messages) are-file most-file i there))
+
+      pub session-is : fieldAt (size + entrySize f * i + offsetWidth f) 2 file ≡ sessionOf (messageAt ms i)
+      session-is = rw (is .1) (in-file (fieldAt _ _) _ (file-session f ms (whole .messages) are-file most-file i there))
+
+      -- its record
+      pub length-is : fieldAt (offsetAt ms i) 2 file ≡ length (messageAt ms i)
+      length-is = in-file (fieldAt _ _) _ (file-length f ms (whole .messages) are-file most-file i there)
+
+      pub record-there : offsetAt ms i + 2 ≤ length file
+      record-there = omega (arith, record-in ms i there, file-long, is .1)
+
+-- ---- the search
+
+-- a number from 1 among what i messages precede, as one among all
+abbrev pub numbered : ℕ → ℕ → ℕ
+numbered i zero = zero
+numbered i (suc k) = suc (i + k)
+
+numbered-none : (k : ℕ) → numbered 0 k ≡ k
+numbered-none zero = refl
+numbered-none (suc k) = omega arith
+
+numbered-more : (i k : ℕ) → numbered i (counted k) ≡ numbered (i + 1) k
+numbered-more i zero = refl
+numbered-more i (suc k) = omega arith
+
+pub first-start : (session : ℕ) (a : Archive) → firstIn session a ≡ numbered 0 (firstOf session (heldBy a))
+unfolding firstOf
+first-start session (refused v) = refl
+first-start session (holds f ms) = sym (numbered-none (firstOf session ms))
+
+module _ (session : ℕ) (ms : List (List ℕ)) (i : ℕ) where
+  pub first-none : length ms ≤ i → numbered i (firstOf session (drop i ms)) ≡ 0
+  unfolding firstOf
+  first-none h = rw (drop-of-length-le ms h)
+
+  module _ (h : i < length ms) where
+    next : (b : Bool) → eqb (sessionOf (messageAt ms i)) session ≡ b
+        → firstOf session (drop i ms) ≡ pick b 1 (counted (firstOf session (drop (suc i) ms)))
+    unfolding firstOf
+    next b e = rw (drop-cons ms i [] h, e)
+
+    pub first-hit : sessionOf (messageAt ms i) ≡ session → numbered i (firstOf session (drop i ms)) ≡ i + 1
+    first-hit e = ap (numbered i) (next true (eq-eqb _ _ e)) ∙ omega arith
+
+    pub first-miss : (sessionOf (messageAt ms i) ≡ session → ⊥)
+        → numbered i (firstOf session (drop i ms)) ≡ numbered (i + 1) (firstOf session (drop (i + 1) ms))
+    first-miss e =
+        let s : i + 1 ≡ suc i = omega arith in
+        ap (numbered i) (next false (ne-eqb _ _ e)) ∙ numbered-more i (firstOf session (drop (suc i) ms)) ∙ rw s
