@@ -5,3 +5,6 @@ pub mod Adding
 pub mod Opening
 pub mod Finding
 pub mod Walking
+pub mod Added
+pub mod Cases
+pub mod Promises
