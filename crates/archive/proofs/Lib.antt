@@ -13,3 +13,4 @@ pub mod ShowLaws
 pub mod VerdictLaws
 pub mod Cases
 pub mod Promises
+mod AddLaws

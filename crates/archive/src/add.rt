@@ -44,13 +44,14 @@ fn is_full(f: Form, room: usize, size: usize, n: usize) -> bool
     if most < size {
         return true;
     }
-    if most - size < form::TRAILER_LEN {
+    if most < n {
         return true;
     }
-    if (most - size - form::TRAILER_LEN) / f.entry_size() < n {
+    let whole = size + f.entry_size() * n + form::TRAILER_LEN;
+    if room < whole {
         return true;
     }
-    room < size + f.entry_size() * n + form::TRAILER_LEN
+    most < whole
 }
 
 // A message's record at `at`.
