@@ -100,8 +100,9 @@ fn put_index(file: &mut [u8], f: Form, size: usize)
     while at < size {
         let k = records::record_at(file, at, size);
         let session = header::two_at(file, at + form::LENGTH_LEN + header::SESSION_AT);
-        number::write_number(file, to, f.offset_width(), at as u64);
-        number::write_number(file, to + f.offset_width(), 2, session as u64);
+        let w = f.offset_width();
+        number::write_number(file, to, w, at as u64);
+        number::write_number(file, to + w, 2, session as u64);
         to += f.entry_size();
         at += k;
     }

@@ -1,0 +1,118 @@
+-- `archive::add::put_index` meets its contract. The loop's invariant: storing what is left of the index at `to` gives the whole of it, and
+-- the records are as they were. The measure is what is left of the records.
+-- Assumes nothing.
+use mathlib.Core.Path.{ap}
+use Prim.Native.Nat.{_-_}
+use native.Mathlib.Omega.{arith}
+use borrow.Author.Needs.{needs}
+use lib.ListN.{length}
+use lib.Seq.{length-sets}
+use Rattle.archive.proofs.FormLaws.{width-is}
+use Rattle.archive.proofs.AddLaws.{Indexing, index-start, index-end, turn-sized, turn-room, index-turn}
+use Rattle.archive.proofs.add.put_index.Statement.{statement}
+use Rattle.archive.proofs.add.put_index.Tie as tie
+
+abbrev Inv-loop : tie.InvT-loop
+Inv-loop file₀ f size at₀ to₀ file at to = Indexing file₀ f size file at to
+
+abbrev μ-loop : tie.MeasureT-loop
+μ-loop file₀ f size at₀ to₀ file at to = size - at
+
+loop-holds : tie.Need-loop-holds Inv-loop μ-loop
+loop-holds c = let s = c .before in index-start (s .args .file .now) (s .args .f) (s .args .size) (s .pre .0) (s .pre .1)
+
+record-at-requires : tie.Need-record-at-requires Inv-loop μ-loop
+record-at-requires c κs = search needs
+
+add-two-at : tie.Need-add-two-at Inv-loop μ-loop
+add-two-at c = search needs
+
+add-two-at-2 : tie.Need-add-two-at-2 Inv-loop μ-loop
+add-two-at-2 c = search needs
+
+two-at-requires : tie.Need-two-at-requires Inv-loop μ-loop
+two-at-requires c κs =
+    let r = c .before in
+    omega (arith, turn-sized (r .before .before .before .loop .inv) (r .before .before .loop-test .taken) (r .record-at .ensures))
+
+offset-width-requires : tie.Need-offset-width-requires Inv-loop μ-loop
+offset-width-requires c κs = search needs
+
+write-number-requires : tie.Need-write-number-requires Inv-loop μ-loop
+write-number-requires c κs =
+    let r = c .before .before .before .before in
+    (omega (arith, turn-room (r .before .before .before .loop .inv) (r .before .before .loop-test .taken) (r .record-at .ensures)), omega (arith, width-is (r .before .before .before .before .before .args .f)))
+
+add-write-number : tie.Need-add-write-number Inv-loop μ-loop
+add-write-number c =
+    let r = c .before .before .before .before .before .before .before .before in
+    omega (arith, turn-room (r .before .before .before .loop .inv) (r .before .before .loop-test .taken) (r .record-at .ensures))
+
+cast-write-number : tie.Need-cast-write-number Inv-loop μ-loop
+cast-write-number c = search needs
+
+write-number-requires-2 : tie.Need-write-number-requires-2 Inv-loop μ-loop
+write-number-requires-2 c κs =
+    let r = c .before .before .before .before .before .before .before .before in
+    (omega (arith, turn-room (r .before .before .before .loop .inv) (r .before .before .loop-test .taken) (r .record-at .ensures), (simp length-sets at (ap length (c .before .before .before .write-number .ensures)))), omega arith)
+
+entry-size-requires : tie.Need-entry-size-requires Inv-loop μ-loop
+entry-size-requires c κs = search needs
+
+add-to : tie.Need-add-to Inv-loop μ-loop
+add-to c =
+    let r = c .before .before .before .before .before .before .before .before .before .before .before .before in
+    omega (arith, turn-room (r .before .before .before .loop .inv) (r .before .before .loop-test .taken) (r .record-at .ensures))
+
+add-at : tie.Need-add-at Inv-loop μ-loop
+add-at c =
+    let r = c .before .before .before .before .before .before .before .before .before .before .before .before in
+    omega (arith, turn-sized (r .before .before .before .loop .inv) (r .before .before .loop-test .taken) (r .record-at .ensures))
+
+loop-less : tie.Need-loop-less Inv-loop μ-loop
+loop-less c =
+    let r = c .before .before .before .before .before .before .before .before .before .before .before .before in
+    omega (arith, turn-sized (r .before .before .before .loop .inv) (r .before .before .loop-test .taken) (r .record-at .ensures))
+
+loop-again : tie.Need-loop-again Inv-loop μ-loop
+loop-again c =
+    let second = c .before .before .before in
+    let first = second .before .before .before .before in
+    let w = first .before .before in
+    let r = w .before .before .before in
+    index-turn (r .before .before .before .loop .inv) (r .before .before .loop-test .taken) (r .record-at .ensures)
+    (w .offset-width .ensures)
+    (w .before .two-at .ensures)
+    (c .entry-size .ensures)
+    (first .write-number .ensures)
+    (second .write-number2 .ensures)
+
+same-length : tie.Need-same-length Inv-loop μ-loop
+same-length c = search needs
+
+returns : tie.Need-returns Inv-loop μ-loop
+returns c = index-end (c .before .loop .inv) (c .loop-test .left)
+
+pub put-index-spec : {M : Type 1} → statement M
+put-index-spec =
+    tie.close
+    (tie.spec
+    Inv-loop
+    μ-loop
+    loop-holds
+    record-at-requires
+    add-two-at
+    add-two-at-2
+    two-at-requires
+    offset-width-requires
+    write-number-requires
+    add-write-number
+    cast-write-number
+    write-number-requires-2
+    entry-size-requires
+    add-to
+    add-at
+    loop-less
+    loop-again
+    same-length
+    returns)
