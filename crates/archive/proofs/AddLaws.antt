@@ -4,19 +4,23 @@ use mathlib.Core.Path.{_≡_, refl, sym, ap, _∙_}
 use mathlib.Core.Bool.{Bool, true, false}
 use mathlib.Core.Option.{Option, none, some}
 use mathlib.Core.List.{List, [], _∷_, _++_}
-use Prim.Native.Nat.{ℕ, suc, _+_, _-_, _*_, _≤_, _<_}
-use native.Mathlib.Nat.{mul-suc}
+use Prim.Native.Nat.{ℕ, zero, suc, _+_, _-_, _*_, _≤_, _<_}
+use native.Mathlib.Nat.{zero-add, mul-suc}
 use native.Mathlib.Omega.{arith}
 use lib.ListN.{length, take, drop, set}
-use lib.Seq.{sets, slice, take-all, take-set-le, length-slice, length-sets, slice-empty}
+use lib.Seq.{sets, slice, take-all, take-set-le, length-take-le, length-slice, length-sets, slice-empty}
 use lib.Dec.{ltb, leb}
-use borrow.Author.Tests.{lt-ltb, le-ltb, le-leb, leb-true}
+use borrow.Author.Tests.{lt-ltb, le-ltb, ltb-false, le-leb, leb-true}
 use Rattle.wire.specs.Choose.{pick, or}
-use Rattle.wire.specs.Number.{big, numberBytes}
+use Rattle.wire.specs.Number.{AreBytes, big, numberBytes}
 use Rattle.wire.specs.Part.{runOf}
 use Rattle.wire.specs.Header.{sessionOf}
-use Rattle.wire.proofs.NumberLaws.{length-numberBytes}
+use Rattle.wire.proofs.NumberLaws.{length-numberBytes, bytes-take}
 use Rattle.wire.proofs.StoreLaws.{two-stores, three-stores}
+use Rattle.archive.specs.declared.verdict.Verdict.{Verdict}
+use Rattle.archive.specs.declared.verdict.Verdict.the-variants.{Accepted, Full, Records, NoMessage}
+use Rattle.archive.specs.declared.records.Walked.{Walked}
+use Rattle.archive.specs.declared.add.Kept.{Kept}
 use Rattle.archive.specs.declared.form.Form.{Form}
 use Rattle.archive.specs.declared.form.Form.the-variants.{One}
 use Rattle.archive.specs.Form.{
@@ -24,17 +28,22 @@ use Rattle.archive.specs.Form.{
   offsetWidth,
   entrySize,
   limit,
+  written,
+  messageFits,
   recordBytes,
   recordSize,
+  recordsBytes,
   entryBytes,
   indexBytes,
+  trailerLen,
   trailerBytes,
+  closingBytes,
   fileSize,
 }
-use Rattle.archive.specs.Records.{messageIn, recordFits, before, cutAll, messagesIn, messagesTo}
-use Rattle.archive.specs.Adding.{isFull}
-use Rattle.archive.specs.Walking.{cutSize, isWhole, listed, sessionIn}
-use Rattle.archive.proofs.RecordLaws.{cut-nothing, turns-enough, length-entry}
+use Rattle.archive.specs.Records.{lengthIn, messageIn, recordFits, before, cutAll, messagesIn, messagesTo}
+use Rattle.archive.specs.Adding.{Outcome, refused, stores, isFull, adding, closing, keptBy, fileBy}
+use Rattle.archive.specs.Walking.{cutSize, walkedFrom, isWhole, listed, sessionIn}
+use Rattle.archive.proofs.RecordLaws.{cut-nothing, turns-enough, cut-is, length-record, length-entry, length-index, length-closing}
 use Rattle.archive.proofs.WalkLaws.{cut-end, cut-none, cut-more, cut-sized, size-of, session-there}
 
 -- ---- 50
@@ -61,6 +70,16 @@ full-size f room size n h = full-over f room size n (omega arith)
 
 pub full-entries : (f : Form) (room size n : ℕ) → limit f < n → true ≡ isFull f room size n
 full-entries One room size n h = full-over One room size n (omega arith)
+
+or-false : (a b : Bool) → or a b ≡ false → (a ≡ false) × (b ≡ false)
+or-false true b e = (cc, cc)
+or-false false b e = (refl, e)
+
+pub not-full : (f : Form) (room size n : ℕ) → isFull f room size n ≡ false → (fileSize f size n ≤ room) × (fileSize f size n ≤ limit f)
+unfolding isFull
+not-full f room size n e =
+    let b = or-false _ _ e in
+    (ltb-false room (fileSize f size n) (b .0), ltb-false (limit f) (fileSize f size n) (b .1))
 
 -- within the limit no sum is over what the code holds
 pub entries-few : (f : Form) (n : ℕ) → n ≤ limit f → entrySize f * n ≤ 262140
@@ -250,3 +269,130 @@ module _ {old : List ℕ} {f : Form} {size : ℕ} {file : List ℕ} {at to : ℕ
           kept = ap (take size) entry-stores ∙ take-sets size file to (entryBytes f at (messageIn here)) (i .behind) ∙ i .kept;
           stores-rest = rest-here ∙ i .stores-rest;
         }
+
+-- ---- what adding and closing come to, as the code finds it
+
+-- a refused call, and one that stores
+pub when-refused : (old : List ℕ) (told : ℕ) {o : Outcome} {v : Verdict} {r : Kept} → o ≡ refused v → r ≡ keptBy 0 (refused v)
+    → (r ≡ keptBy told o) × (old ≡ fileBy old told o)
+when-refused old told e k = (k ∙ rw e, rw e)
+
+pub when-stores : (old : List ℕ) (told : ℕ) {o : Outcome} {xs : List ℕ} {r : Kept} {new : List ℕ} → o ≡ stores xs
+    → r ≡ keptBy told (stores xs) → new ≡ sets old told xs → (r ≡ keptBy told o) × (new ≡ fileBy old told o)
+when-stores old told e k n = (k ∙ rw e, n ∙ rw e)
+
+-- fewer records than turns
+few-cut : (turns : ℕ) (bytes : List ℕ) → length (listed (cutAll turns bytes)) ≤ turns
+unfolding cutAll
+few-cut zero [] = omega arith
+few-cut zero (x ∷ xs) = omega arith
+few-cut (suc turns) [] = omega arith
+few-cut (suc turns) (x ∷ xs) = go (recordFits (x ∷ xs)) (cutAll turns _) (few-cut turns (drop (2 + lengthIn (x ∷ xs)) (x ∷ xs)))
+  where
+    go : (c : Bool) (r : Option (List (List ℕ))) → length (listed r) ≤ turns
+        → length (listed (pick c (before (messageIn (x ∷ xs)) r) none)) ≤ suc turns
+    go false r h = omega arith
+    go true none h = omega arith
+    go true (some ms) h = omega arith
+
+walked-none : (r : Option (List (List ℕ))) → walkedFrom 0 r .whole ≡ false → r ≡ none
+walked-none none e = refl
+walked-none (some ms) e = cc
+
+walked-some : (r : Option (List (List ℕ))) → walkedFrom 0 r .whole ≡ true → (r ≡ some (listed r)) × (walkedFrom 0 r .count ≡ length (listed r))
+walked-some none e = (cc, cc)
+walked-some (some ms) e = (refl, zero-add (length ms))
+
+module _ (old : List ℕ) (told : ℕ) (w : Walked) (we : w ≡ walkedFrom 0 (messagesTo old told)) where
+  abbrev found : List (List ℕ)
+  found = listed (messagesTo old told)
+
+  -- 52
+  module _ (wh : w .whole ≡ false) where
+    not-found : messagesTo old told ≡ none
+    not-found = walked-none (messagesTo old told) (ap (λ x. x .whole) (sym we) ∙ wh)
+
+    pub add-records : (m : List ℕ) → adding old told m ≡ refused Records
+    unfolding adding
+    add-records m = rw not-found
+
+    pub close-records : closing old told ≡ refused Records
+    unfolding closing
+    close-records = rw not-found
+
+  module _ (wh : w .whole ≡ true) where
+    found-is : (messagesTo old told ≡ some found) × (w .count ≡ length found)
+    found-is = rw we (walked-some (messagesTo old told) (ap (λ x. x .whole) (sym we) ∙ wh))
+
+    found-whole : isWhole (messagesTo old told) ≡ true
+    found-whole = ap isWhole (found-is .0)
+
+    inside : told ≤ length old
+    inside = size-inside old told found-whole
+
+    cut-found : messagesIn (take told old) ≡ some found
+    cut-found = sym (from-start old told found-whole) ∙ found-is .0
+
+    long : length (take told old) ≡ told
+    long = length-take-le told old inside
+
+    -- so few that one more is no wrap
+    pub count-few : w .count ≤ told
+    count-few = omega (arith, found-is .1, long, (rw cut-found at (few-cut (length (take told old)) (take told old))))
+
+    -- 53
+    pub add-no-message : (m : List ℕ) → messageFits m ≡ false → adding old told m ≡ refused NoMessage
+    unfolding adding
+    add-no-message m e = rw (found-is .0, e)
+
+    -- 50, or the record
+    module _ (m : List ℕ) (e : messageFits m ≡ true) where
+      adding-by : adding old told m ≡ pick (isFull written (length old) (told + recordSize m) (w .count + 1)) (refused Full) (stores (recordBytes m))
+      unfolding adding
+      adding-by = let n : w .count + 1 ≡ suc (length found) = omega (arith, found-is .1) in rw (found-is .0, e, n)
+
+      pub add-full : isFull written (length old) (told + recordSize m) (w .count + 1) ≡ true → adding old told m ≡ refused Full
+      add-full h = adding-by ∙ rw h
+
+      pub add-over : limit written < told → adding old told m ≡ refused Full
+      add-over h = add-full (sym (full-size written (length old) (told + recordSize m) (w .count + 1) (omega arith)))
+
+      pub add-stores : isFull written (length old) (told + recordSize m) (w .count + 1) ≡ false → adding old told m ≡ stores (recordBytes m)
+      add-stores h = adding-by ∙ rw h
+
+    -- 50, or index and trailer
+    closing-by : closing old told ≡ pick (isFull written (length old) told (w .count)) (refused Full) (stores (closingBytes written found))
+    unfolding closing
+    closing-by = rw (found-is .0, found-is .1)
+
+    pub close-full : isFull written (length old) told (w .count) ≡ true → closing old told ≡ refused Full
+    close-full h = closing-by ∙ rw h
+
+    pub close-stores : isFull written (length old) told (w .count) ≡ false → closing old told ≡ stores (closingBytes written found)
+    close-stores h = closing-by ∙ rw h
+
+    pub index-room : isFull written (length old) told (w .count) ≡ false
+        → (isWhole (messagesTo old told) ≡ true) × (told + entrySize written * length found ≤ length old)
+    index-room h = (found-whole, omega (arith, found-is .1, not-full written (length old) told (w .count) h))
+
+    records-size : AreBytes old → length (recordsBytes found) ≡ told
+    records-size b = ap length (sym (cut-is (take told old) found (bytes-take told old b) cut-found .0)) ∙ long
+
+    pub closing-stores : AreBytes old → {l1 l2 : List ℕ} → l1 ≡ sets old told (indexBytes written 0 found)
+        → l2 ≡ sets l1 (told + entrySize written * w .count) (trailerBytes written told (w .count))
+        → l2 ≡ sets old told (closingBytes written found)
+    unfolding closingBytes
+    closing-stores b e1 e2 =
+        e2
+        ∙ rw (e1, found-is .1, records-size b)
+        (two-stores old (indexBytes written 0 found) (trailerBytes written told (length found)) told (entrySize written * length found)
+        (length-index written 0 found))
+
+    pub closed-size : record { verdict = Accepted; size = told + entrySize written * w .count + trailerLen } ≡ keptBy told (stores (closingBytes written found))
+    closed-size =
+        let n : told + entrySize written * w .count + trailerLen ≡ told + length (closingBytes written found) =
+        omega (arith, found-is .1, length-closing written found) in
+        ap (λ k. record { verdict = Accepted; size = k }) n
+
+pub added-size : (told : ℕ) (m : List ℕ) → record { verdict = Accepted; size = told + recordSize m } ≡ keptBy told (stores (recordBytes m))
+added-size told m = rw (length-record m)
