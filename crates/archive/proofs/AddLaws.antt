@@ -378,21 +378,30 @@ module _ (old : List ℕ) (told : ℕ) (w : Walked) (we : w ≡ walkedFrom 0 (me
     records-size : AreBytes old → length (recordsBytes found) ≡ told
     records-size b = ap length (sym (cut-is (take told old) found (bytes-take told old b) cut-found .0)) ∙ long
 
-    pub closing-stores : AreBytes old → {l1 l2 : List ℕ} → l1 ≡ sets old told (indexBytes written 0 found)
-        → l2 ≡ sets l1 (told + entrySize written * w .count) (trailerBytes written told (w .count))
-        → l2 ≡ sets old told (closingBytes written found)
-    unfolding closingBytes
-    closing-stores b e1 e2 =
-        e2
-        ∙ rw (e1, found-is .1, records-size b)
-        (two-stores old (indexBytes written 0 found) (trailerBytes written told (length found)) told (entrySize written * length found)
-        (length-index written 0 found))
+    module _ {e : ℕ} (ee : e ≡ entrySize written) where
+      pub closing-stores : AreBytes old → {l1 l2 : List ℕ} → l1 ≡ sets old told (indexBytes written 0 found)
+          → l2 ≡ sets l1 (told + e * w .count) (trailerBytes written told (w .count))
+          → l2 ≡ sets old told (closingBytes written found)
+      unfolding closingBytes
+      closing-stores b e1 e2 =
+          e2
+          ∙ rw (e1, ee, found-is .1, records-size b)
+          (two-stores old (indexBytes written 0 found) (trailerBytes written told (length found)) told (entrySize written * length found)
+          (length-index written 0 found))
 
-    pub closed-size : record { verdict = Accepted; size = told + entrySize written * w .count + trailerLen } ≡ keptBy told (stores (closingBytes written found))
-    closed-size =
-        let n : told + entrySize written * w .count + trailerLen ≡ told + length (closingBytes written found) =
-        omega (arith, found-is .1, length-closing written found) in
-        ap (λ k. record { verdict = Accepted; size = k }) n
+      pub closed-size : record { verdict = Accepted; size = told + e * w .count + trailerLen } ≡ keptBy told (stores (closingBytes written found))
+      closed-size =
+          let n : told + e * w .count + trailerLen ≡ told + length (closingBytes written found) =
+          rw ee (omega (arith, found-is .1, length-closing written found)) in
+          ap (λ k. record { verdict = Accepted; size = k }) n
+
+      -- the whole fits, and no sum wraps
+      module _ (h : isFull written (length old) told (w .count) ≡ false) where
+        pub closing-few : told + e * w .count + trailerLen ≤ limit written
+        closing-few = rw ee (not-full written (length old) told (w .count) h .1)
+
+        pub trailer-room : {l1 : List ℕ} → l1 ≡ sets old told (indexBytes written 0 found) → told + e * w .count + trailerLen ≤ length l1
+        trailer-room e1 = rw (e1, length-sets old told (indexBytes written 0 found), ee) (not-full written (length old) told (w .count) h .0)
 
 pub added-size : (told : ℕ) (m : List ℕ) → record { verdict = Accepted; size = told + recordSize m } ≡ keptBy told (stores (recordBytes m))
 added-size told m = rw (length-record m)
