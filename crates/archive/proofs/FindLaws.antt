@@ -5,9 +5,9 @@ use mathlib.Core.Bool.{Bool, true, false}
 use mathlib.Core.List.{List, [], _∷_, _++_, append-assoc}
 use Prim.Native.Nat.{ℕ, zero, suc, _+_, _-_, _*_, _^_, _≤_, _<_}
 use native.Mathlib.Omega.{arith}
-use lib.ListN.{length, take, drop, getD, length-append, drop-of-length-le}
+use lib.ListN.{length, take, drop, length-append, drop-of-length-le}
 use lib.Seq.{take-at, drop-cons}
-use lib.Dec.{ltb, eqb}
+use lib.Dec.{eqb}
 use borrow.Author.Tests.{lt-ltb, le-ltb, eq-eqb, ne-eqb}
 use Rattle.wire.specs.Choose.{pick}
 use Rattle.wire.specs.Number.{AreBytes, big, numberBytes}
@@ -18,7 +18,6 @@ use Rattle.archive.specs.declared.verdict.Verdict.{Verdict}
 use Rattle.archive.specs.declared.verdict.Verdict.the-variants.{Accepted, NoRecord}
 use Rattle.archive.specs.declared.form.Form.{Form}
 use Rattle.archive.specs.declared.open.Opening.{Opening}
-use Rattle.archive.specs.declared.find.Found.{Found}
 use Rattle.archive.specs.Verdict.{verdictNumber}
 use Rattle.archive.specs.Form.{
   offsetWidth,
@@ -38,7 +37,7 @@ use Rattle.archive.specs.Form.{
 use Rattle.archive.specs.Opening.{Archive, refused, holds, archiveOf, openingBy}
 use Rattle.archive.specs.Finding.{messageAt, offsetAt, noneFound, readingBy, counted, firstOf, firstIn}
 use Rattle.archive.specs.Walking.{Opened}
-use Rattle.archive.proofs.FormLaws.{width-is, entry-is, limit-is, limit-fits}
+use Rattle.archive.proofs.FormLaws.{width-is, entry-is, limit-fits}
 use Rattle.archive.proofs.RecordLaws.{length-record, length-entry, length-file, message-least, message-most}
 use Rattle.archive.proofs.OpenLaws.{field-behind, field-before, one-form, Holding, open-holds, refused-why}
 
@@ -209,19 +208,16 @@ module _ (file : List ℕ) (f : Form) (size count : ℕ) (o : Opened file size c
   is : (archiveOf file ≡ holds f ms) × (size ≡ length (recordsBytes ms)) × (count ≡ length ms)
   is = held f (archiveOf file) size count (refused-why file) o
 
-  pub shown-zero : noneFound NoRecord ≡ readingBy 0 (archiveOf file)
-  shown-zero = sym (ap (readingBy 0) (is .0))
+  pub shown-zero : (n : ℕ) → n ≡ 0 → noneFound NoRecord ≡ readingBy n (archiveOf file)
+  shown-zero n e = rw e (sym (ap (readingBy 0) (is .0)))
 
   pub shown-past : (n : ℕ) → count < n → noneFound NoRecord ≡ readingBy n (archiveOf file)
   shown-past zero h = absurd (omega arith)
   shown-past (suc i) h = sym (ap (readingBy (suc i)) (is .0) ∙ rw (le-ltb i (length ms) (omega (arith, is .2))))
 
-  pub shown-nth : (n at len : ℕ) → 0 < n → n ≤ count → at ≡ offsetAt ms (n - 1) → len ≡ length (messageAt ms (n - 1))
-      → record { verdict = Accepted; number = n; message = part (at + 2) len } ≡ readingBy n (archiveOf file)
-  shown-nth zero at len h l ea el = absurd (omega arith)
-  shown-nth (suc i) at len h l ea el =
-      let e : suc i - 1 ≡ i = omega arith in
-      rw (ea, el, e) (sym (ap (readingBy (suc i)) (is .0) ∙ rw (lt-ltb i (length ms) (omega (arith, is .2)))))
+  shown-nth : (i : ℕ) → i < count → record { verdict = Accepted; number = suc i; message = part (offsetAt ms i + 2) (length (messageAt ms i)) }
+      ≡ readingBy (suc i) (archiveOf file)
+  shown-nth i h = sym (ap (readingBy (suc i)) (is .0) ∙ rw (lt-ltb i (length ms) (omega (arith, is .2))))
 
   module _ (are : AreBytes file) where
     whole : Holding file f ms
@@ -244,24 +240,46 @@ module _ (file : List ℕ) (f : Form) (size count : ℕ) (o : Opened file size c
       file-long = ap length (whole .file-is) ∙ length-file f ms ∙ rw (is .1, is .2)
 
       -- the entry that i entries precede
-      pub entry-in : size + entrySize f * i + entrySize f ≤ length file
+      entry-in : size + entrySize f * i + entrySize f + 8 ≤ length file
       entry-in =
           let a : entrySize f * i ≡ 4 * i = ap (_* i) (sym (entry-is f)) in
           let b : entrySize f * count ≡ 4 * count = ap (_* count) (sym (entry-is f)) in
           omega (arith, file-long, entry-is f)
 
-      pub offset-is : fieldAt (size + entrySize f * i) (offsetWidth f) file ≡ offsetAt ms i
+      offset-is : fieldAt (size + entrySize f * i) (offsetWidth f) file ≡ offsetAt ms i
       offset-is = rw (is .1) (in-file (fieldAt _ _) _ (file-offset f ms (whole .messages) are-file most-file i there))
 
-      pub session-is : fieldAt (size + entrySize f * i + offsetWidth f) 2 file ≡ sessionOf (messageAt ms i)
+      session-is : fieldAt (size + entrySize f * i + offsetWidth f) 2 file ≡ sessionOf (messageAt ms i)
       session-is = rw (is .1) (in-file (fieldAt _ _) _ (file-session f ms (whole .messages) are-file most-file i there))
 
       -- its record
-      pub length-is : fieldAt (offsetAt ms i) 2 file ≡ length (messageAt ms i)
+      length-is : fieldAt (offsetAt ms i) 2 file ≡ length (messageAt ms i)
       length-is = in-file (fieldAt _ _) _ (file-length f ms (whole .messages) are-file most-file i there)
 
-      pub record-there : offsetAt ms i + 2 ≤ length file
+      record-there : offsetAt ms i + 2 ≤ length file
       record-there = omega (arith, record-in ms i there, file-long, is .1)
+
+    -- the n-th from 1, as the code goes
+    module _ (n : ℕ) (first : 0 < n) (last : n ≤ count) (e w : ℕ) (ee : e ≡ entrySize f) (ew : w ≡ offsetWidth f) where
+      under : n - 1 < count
+      under = omega arith
+
+      pub nth-entry : size + e * (n - 1) + w ≤ length file
+      nth-entry = rw (ee, ew) (omega (arith, entry-in (n - 1) under))
+
+      module _ (at : ℕ) (ea : at ≡ fieldAt (size + e * (n - 1)) w file) where
+        at-is : at ≡ offsetAt ms (n - 1)
+        at-is = ea ∙ rw (ee, ew) (offset-is (n - 1) under)
+
+        pub nth-there : at + 2 ≤ length file
+        nth-there = rw at-is (record-there (n - 1) under)
+
+        pub nth-is : (len : ℕ) → len ≡ fieldAt at 2 file
+            → record { verdict = Accepted; number = n; message = part (at + 2) len } ≡ readingBy n (archiveOf file)
+        nth-is len el =
+            let l : len ≡ length (messageAt ms (n - 1)) = el ∙ rw at-is (length-is (n - 1) under) in
+            let s : suc (n - 1) ≡ n = omega arith in
+            rw (at-is, l) (rw s at (shown-nth (n - 1) under))
 
 -- ---- the search
 
@@ -302,3 +320,53 @@ module _ (session : ℕ) (ms : List (List ℕ)) (i : ℕ) where
     first-miss e =
         let s : i + 1 ≡ suc i = omega arith in
         ap (numbered i) (next false (ne-eqb _ _ e)) ∙ numbered-more i (firstOf session (drop (suc i) ms)) ∙ rw s
+
+-- ---- as the code searches
+
+-- No message before the i-th has the Session ID; the next entry's Session ID stands at `at`.
+pub record Seeking (file : List ℕ) (f : Form) (o : Opening) (session i at : ℕ) : Type 0 where
+  pub within : i ≤ o .entries
+  pub place : at ≡ o .size + entrySize f * i + offsetWidth f
+  pub left : firstIn session (archiveOf file) ≡ numbered i (firstOf session (drop i (heldBy (archiveOf file))))
+
+module _ (file : List ℕ) (f : Form) (o : Opening) (eo : o ≡ openingBy (archiveOf file)) (session : ℕ) where
+  pub seek-start : (w : ℕ) → w ≡ offsetWidth f → Seeking file f o session 0 (o .size + w)
+  seek-start w ew = record { within = omega arith; place = omega arith; left = first-start session (archiveOf file) }
+
+  pub seek-end : (i at : ℕ) → Seeking file f o session i at → o .entries ≤ i → 0 ≡ firstIn session (archiveOf file)
+  seek-end i at s h = sym (s .left ∙ first-none session (heldBy (archiveOf file)) i (omega (arith, held-count file o eo)))
+
+  module _ (are : AreBytes file) where
+    pub seek-small : o .size ≤ limit f
+    seek-small = rw eo (go (archiveOf file) refl)
+      where
+        go : (a : Archive) → archiveOf file ≡ a → (openingBy a) .size ≤ limit f
+        go (refused v) e = omega arith
+        go (holds g ms) e =
+            let h = open-holds file are f ms (e ∙ ap (λ x. holds x ms) (one-form g f)) in
+            omega (arith, h .most, ap length (h .file-is), length-file f ms)
+
+    module _ (i at : ℕ) (s : Seeking file f o session i at) (more : i < o .entries) where
+      found : Opened file (o .size) (o .entries)
+      found = opened-some file o eo (omega arith)
+
+      pub seek-in : at + entrySize f ≤ length file
+      seek-in = omega (arith, s .place, entry-in file f (o .size) (o .entries) found are i more, width-is f)
+
+      module _ (v : ℕ) (ev : v ≡ fieldAt at 2 file) where
+        v-is : v ≡ sessionOf (messageAt (heldBy (archiveOf file)) i)
+        v-is = ev ∙ rw (s .place) (session-is file f (o .size) (o .entries) found are i more)
+
+        listed : i < length (heldBy (archiveOf file))
+        listed = omega (arith, held-count file o eo)
+
+        pub seek-hit : v ≡ session → i + 1 ≡ firstIn session (archiveOf file)
+        seek-hit e = sym (s .left ∙ first-hit session (heldBy (archiveOf file)) i listed (sym v-is ∙ e))
+
+        pub seek-on : (v ≡ session → ⊥) → (e : ℕ) → e ≡ entrySize f → Seeking file f o session (i + 1) (at + e)
+        seek-on other e ee =
+            record {
+              within = omega arith;
+              place = omega (arith, s .place);
+              left = s .left ∙ first-miss session (heldBy (archiveOf file)) i listed (λ q. other (v-is ∙ q));
+            }
