@@ -1,6 +1,7 @@
 pub mod FormLaws
 pub mod RecordLaws
 pub mod WalkLaws
+pub mod LeftLaws
 pub mod OpenLaws
 pub mod FindLaws
 pub mod ListLaws
@@ -13,4 +14,5 @@ pub mod ShowLaws
 pub mod VerdictLaws
 pub mod Cases
 pub mod Promises
-mod AddLaws
+pub mod IndexLaws
+pub mod AddLaws

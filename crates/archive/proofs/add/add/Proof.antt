@@ -81,7 +81,8 @@ add-is-full : tie.Need-add-is-full
 add-is-full c =
     let over = c .before in
     let i = over .before .before .before .before in
-    omega (arith, over .before .limit .ensures, over .if3 .left, count-few _ _ _ (i .before .before .walk .ensures) (not-false _ (i .if1 .left)))
+    let few = count-few _ _ _ (i .before .before .walk .ensures) (not-false _ (i .if1 .left)) in
+    omega (arith, over .before .limit .ensures, over .if3 .left)
 
 is-full-requires : tie.Need-is-full-requires
 is-full-requires c κs = search needs

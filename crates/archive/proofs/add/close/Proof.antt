@@ -47,7 +47,8 @@ returns-2 c =
     let full = c .before .before in
     let i = full .before in
     when-refused _ _
-    (close-full _ _ _ (i .before .before .walk .ensures) (not-false _ (i .if1 .left)) (sym (full .is-full .ensures) ∙ c .before .if2 .taken))
+    (close-full _ _ _ (i .before .before .walk .ensures) (not-false _ (i .if1 .left))
+    (sym (full .is-full .ensures) ∙ c .before .if2 .taken))
     (c .refuse2 .ensures)
 
 put-index-requires : tie.Need-put-index-requires
@@ -114,7 +115,8 @@ returns-3 c =
     let full = first .before .before .before in
     let i = full .before in
     when-stores _ _
-    (close-stores _ _ _ (i .before .before .walk .ensures) (not-false _ (i .if1 .left)) (sym (full .is-full .ensures) ∙ first .before .before .if2 .left))
+    (close-stores _ _ _ (i .before .before .walk .ensures) (not-false _ (i .if1 .left))
+    (sym (full .is-full .ensures) ∙ first .before .before .if2 .left))
     (closed-size _ _ _ (i .before .before .walk .ensures) (not-false _ (i .if1 .left)) (size .entry-size .ensures))
     (closing-stores _ _ _ (i .before .before .walk .ensures) (not-false _ (i .if1 .left)) (size .entry-size .ensures)
     (λ k. i .before .before .before .before .slice-known .given k .fits)

@@ -8,7 +8,7 @@ use borrow.Author.Needs.{needs}
 use lib.ListN.{length}
 use lib.Seq.{length-sets}
 use Rattle.archive.proofs.FormLaws.{width-is}
-use Rattle.archive.proofs.AddLaws.{Indexing, index-start, index-end, turn-sized, turn-room, index-turn}
+use Rattle.archive.proofs.IndexLaws.{Indexing, index-start, index-end, turn-sized, turn-room, index-turn}
 use Rattle.archive.proofs.add.put_index.Statement.{statement}
 use Rattle.archive.proofs.add.put_index.Tie as tie
 
@@ -33,7 +33,8 @@ add-two-at-2 c = search needs
 two-at-requires : tie.Need-two-at-requires Inv-loop μ-loop
 two-at-requires c κs =
     let r = c .before in
-    omega (arith, turn-sized (r .before .before .before .loop .inv) (r .before .before .loop-test .taken) (r .record-at .ensures))
+    let t = r .before .before in
+    omega (arith, turn-sized (t .before .loop .inv) (t .loop-test .taken) (r .record-at .ensures))
 
 offset-width-requires : tie.Need-offset-width-requires Inv-loop μ-loop
 offset-width-requires c κs = search needs
@@ -41,12 +42,16 @@ offset-width-requires c κs = search needs
 write-number-requires : tie.Need-write-number-requires Inv-loop μ-loop
 write-number-requires c κs =
     let r = c .before .before .before .before in
-    (omega (arith, turn-room (r .before .before .before .loop .inv) (r .before .before .loop-test .taken) (r .record-at .ensures)), omega (arith, width-is (r .before .before .before .before .before .args .f)))
+    let t = r .before .before in (
+      omega (arith, turn-room (t .before .loop .inv) (t .loop-test .taken) (r .record-at .ensures)),
+      omega (arith, width-is (t .before .before .before .args .f)),
+    )
 
 add-write-number : tie.Need-add-write-number Inv-loop μ-loop
 add-write-number c =
     let r = c .before .before .before .before .before .before .before .before in
-    omega (arith, turn-room (r .before .before .before .loop .inv) (r .before .before .loop-test .taken) (r .record-at .ensures))
+    let t = r .before .before in
+    omega (arith, turn-room (t .before .loop .inv) (t .loop-test .taken) (r .record-at .ensures))
 
 cast-write-number : tie.Need-cast-write-number Inv-loop μ-loop
 cast-write-number c = search needs
@@ -54,7 +59,9 @@ cast-write-number c = search needs
 write-number-requires-2 : tie.Need-write-number-requires-2 Inv-loop μ-loop
 write-number-requires-2 c κs =
     let r = c .before .before .before .before .before .before .before .before in
-    (omega (arith, turn-room (r .before .before .before .loop .inv) (r .before .before .loop-test .taken) (r .record-at .ensures), (simp length-sets at (ap length (c .before .before .before .write-number .ensures)))), omega arith)
+    let t = r .before .before in
+    let same = simp length-sets at (ap length (c .before .before .before .write-number .ensures)) in
+    (omega (arith, same, turn-room (t .before .loop .inv) (t .loop-test .taken) (r .record-at .ensures)), omega arith)
 
 entry-size-requires : tie.Need-entry-size-requires Inv-loop μ-loop
 entry-size-requires c κs = search needs
@@ -62,17 +69,20 @@ entry-size-requires c κs = search needs
 add-to : tie.Need-add-to Inv-loop μ-loop
 add-to c =
     let r = c .before .before .before .before .before .before .before .before .before .before .before .before in
-    omega (arith, turn-room (r .before .before .before .loop .inv) (r .before .before .loop-test .taken) (r .record-at .ensures))
+    let t = r .before .before in
+    omega (arith, turn-room (t .before .loop .inv) (t .loop-test .taken) (r .record-at .ensures))
 
 add-at : tie.Need-add-at Inv-loop μ-loop
 add-at c =
     let r = c .before .before .before .before .before .before .before .before .before .before .before .before in
-    omega (arith, turn-sized (r .before .before .before .loop .inv) (r .before .before .loop-test .taken) (r .record-at .ensures))
+    let t = r .before .before in
+    omega (arith, turn-sized (t .before .loop .inv) (t .loop-test .taken) (r .record-at .ensures))
 
 loop-less : tie.Need-loop-less Inv-loop μ-loop
 loop-less c =
     let r = c .before .before .before .before .before .before .before .before .before .before .before .before in
-    omega (arith, turn-sized (r .before .before .before .loop .inv) (r .before .before .loop-test .taken) (r .record-at .ensures))
+    let t = r .before .before in
+    omega (arith, turn-sized (t .before .loop .inv) (t .loop-test .taken) (r .record-at .ensures))
 
 loop-again : tie.Need-loop-again Inv-loop μ-loop
 loop-again c =
@@ -80,7 +90,8 @@ loop-again c =
     let first = second .before .before .before .before in
     let w = first .before .before in
     let r = w .before .before .before in
-    index-turn (r .before .before .before .loop .inv) (r .before .before .loop-test .taken) (r .record-at .ensures)
+    let t = r .before .before in
+    index-turn (t .before .loop .inv) (t .loop-test .taken) (r .record-at .ensures)
     (w .offset-width .ensures)
     (w .before .two-at .ensures)
     (c .entry-size .ensures)

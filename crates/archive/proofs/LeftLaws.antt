@@ -1,0 +1,120 @@
+-- Whole records from a place on, one by one, and what the walk over them answers.
+-- Assumes nothing.
+use mathlib.Core.Path.{_≡_, refl, sym, ap, _∙_}
+use mathlib.Core.Bool.{Bool, true, false}
+use mathlib.Core.Option.{Option, none, some}
+use mathlib.Core.List.{List, [], _∷_}
+use Prim.Native.Nat.{ℕ, zero, suc, _+_, _-_, _≤_, _<_}
+use native.Mathlib.Omega.{arith}
+use lib.ListN.{length, take, drop}
+use lib.Seq.{slice, length-slice}
+use lib.Dec.{leb}
+use borrow.Author.Tests.{le-leb, leb-true}
+use Rattle.wire.specs.Choose.{pick}
+use Rattle.wire.specs.Number.{AreBytes}
+use Rattle.wire.proofs.NumberLaws.{bytes-take}
+use Rattle.archive.specs.Form.{AreMessages, recordsBytes}
+use Rattle.archive.specs.Records.{lengthIn, messageIn, recordFits, before, cutAll, messagesIn, messagesTo}
+use Rattle.archive.specs.Walking.{cutSize, walkedFrom, isWhole, listed}
+use Rattle.archive.proofs.RecordLaws.{turns-enough, cut-is}
+use Rattle.archive.proofs.WalkLaws.{cut-none, cut-more, cut-sized}
+
+-- ---- whole or not
+
+pub whole-some : (r : Option (List (List ℕ))) → isWhole r ≡ true → r ≡ some (listed r)
+whole-some none e = cc
+whole-some (some ms) e = refl
+
+pub whole-none : (r : Option (List (List ℕ))) → isWhole r ≡ false → r ≡ none
+whole-none none e = refl
+whole-none (some ms) e = cc
+
+pub walked-whole : (r : Option (List (List ℕ))) → walkedFrom 0 r .whole ≡ isWhole r
+walked-whole none = refl
+walked-whole (some ms) = refl
+
+pub walked-count : (r : Option (List (List ℕ))) → walkedFrom 0 r .count ≡ length (listed r)
+walked-count none = refl
+walked-count (some ms) = omega arith
+
+before-whole : (m : List ℕ) (r : Option (List (List ℕ))) → isWhole (before m r) ≡ isWhole r
+before-whole m none = refl
+before-whole m (some ms) = refl
+
+before-listed : (m : List ℕ) (r : Option (List (List ℕ))) → isWhole r ≡ true → listed (before m r) ≡ m ∷ listed r
+before-listed m none e = cc
+before-listed m (some ms) e = refl
+
+-- no more messages than turns
+pub few-cut : (turns : ℕ) (bytes : List ℕ) → length (listed (cutAll turns bytes)) ≤ turns
+unfolding cutAll
+few-cut zero [] = omega arith
+few-cut zero (x ∷ xs) = omega arith
+few-cut (suc turns) [] = omega arith
+few-cut (suc turns) (x ∷ xs) = go (recordFits (x ∷ xs)) (cutAll turns _) (few-cut turns (drop (2 + lengthIn (x ∷ xs)) (x ∷ xs)))
+  where
+    go : (c : Bool) (r : Option (List (List ℕ))) → length (listed r) ≤ turns
+        → length (listed (pick c (before (messageIn (x ∷ xs)) r) none)) ≤ suc turns
+    go false r h = omega arith
+    go true none h = omega arith
+    go true (some ms) h = omega arith
+
+-- ---- from a place on
+
+-- the messages of the records from `at` to `size`
+abbrev pub messagesFrom : List ℕ → ℕ → ℕ → Option (List (List ℕ))
+messagesFrom file at size = messagesIn (slice at size file)
+
+module _ (file : List ℕ) (at size : ℕ) (under : at < size) (inside : size ≤ length file)
+    (whole : isWhole (messagesFrom file at size) ≡ true) where
+  abbrev b : List ℕ
+  b = slice at size file
+
+  long : length b ≡ suc (size - at - 1)
+  long = length-slice at size file inside ∙ omega arith
+
+  -- a record stands there
+  pub next-fits : recordFits b ≡ true
+  next-fits = go (recordFits b) refl
+    where
+      go : (c : Bool) → recordFits b ≡ c → c ≡ true
+      go true e = refl
+      go false e = sym (ap isWhole (ap (λ n. cutAll n b) long ∙ cut-none file at size under inside (size - at - 1) e)) ∙ whole
+
+  abbrev next : ℕ
+  next = at + cutSize b
+
+  next-is : messagesFrom file at size ≡ before (messageIn b) (messagesFrom file next size)
+  next-is =
+      let k = cut-sized file at size under inside next-fits in
+      let l = length-slice next size file inside in
+      ap (λ n. cutAll n b) long
+      ∙ cut-more file at size under inside next-fits (size - at - 1)
+      ∙ ap (before (messageIn b))
+      (turns-enough (size - at - 1) (length (slice next size file)) (slice next size file) (omega arith) (omega arith))
+
+  pub next-whole : isWhole (messagesFrom file next size) ≡ true
+  next-whole = sym (before-whole (messageIn b) (messagesFrom file next size)) ∙ ap isWhole (sym next-is) ∙ whole
+
+  pub next-listed : listed (messagesFrom file at size) ≡ messageIn b ∷ listed (messagesFrom file next size)
+  next-listed = ap listed next-is ∙ before-listed (messageIn b) (messagesFrom file next size) next-whole
+
+-- ---- the first `size` bytes
+
+module _ (file : List ℕ) (size : ℕ) where
+  pub whole-within : isWhole (messagesTo file size) ≡ true → size ≤ length file
+  unfolding messagesTo
+  whole-within w = go (leb size (length file)) refl w
+    where
+      go : (c : Bool) → leb size (length file) ≡ c → isWhole (pick c (messagesFrom file 0 size) none) ≡ true → size ≤ length file
+      go true e q = leb-true size (length file) e
+      go false e q = let z : _≡_ {A = ℕ} 0 1 = cc in absurd (omega arith)
+
+  pub from-start : size ≤ length file → messagesTo file size ≡ messagesFrom file 0 size
+  unfolding messagesTo
+  from-start h = rw (le-leb size (length file) h)
+
+  -- whole records of messages are theirs
+  pub records-are : AreBytes file → (ms : List (List ℕ)) → size ≤ length file → messagesTo file size ≡ some ms
+      → (take size file ≡ recordsBytes ms) × AreMessages ms
+  records-are b ms h e = cut-is (take size file) ms (bytes-take size file b) (sym (from-start h) ∙ e)
