@@ -48,7 +48,8 @@ use Rattle.archive.proofs.LeftLaws.{
   few-cut,
   whole-within,
   from-start,
-  records-are,
+  told-size,
+  cut-records,
 }
 
 -- ---- 50
@@ -197,7 +198,7 @@ module _ (old : List ℕ) (told : ℕ) (w : Walked) (we : w ≡ walkedFrom 0 (me
     index-room h = (found-whole, omega (arith, count-is, not-full written (length old) told (w .count) h))
 
     records-size : AreBytes old → length (recordsBytes found) ≡ told
-    records-size b = ap length (sym (records-are old told b found inside found-is .0)) ∙ long
+    records-size b = told-size old told found (cut-records old told found b found-is)
 
     module _ {e : ℕ} (ee : e ≡ entrySize written) where
       pub closing-stores : AreBytes old → {l1 l2 : List ℕ} → l1 ≡ sets old told (indexBytes written 0 found)

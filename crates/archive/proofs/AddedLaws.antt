@@ -22,7 +22,8 @@ use Rattle.archive.proofs.RecordLaws.{length-record, length-file}
 use Rattle.archive.proofs.ListLaws.{records-append, messages-append}
 use Rattle.archive.proofs.FileLaws.{records-in}
 use Rattle.archive.proofs.AcceptLaws.{held-is, is-held, open-verdicts}
-use Rattle.archive.proofs.KeepLaws.{told-size, add-stores, close-stores, add-writes, add-changes, close-writes}
+use Rattle.archive.proofs.LeftLaws.{told-size}
+use Rattle.archive.proofs.KeepLaws.{add-stores, close-stores, add-writes, add-changes, close-writes}
 use Rattle.archive.proofs.ShowLaws.{reads-nth}
 
 kept-is : (k : Kept) (v : Verdict) (n : ℕ) → k .verdict ≡ v → k .size ≡ n → k ≡ record { verdict = v; size = n }

@@ -8,15 +8,13 @@ use mathlib.Core.Option.{Option, none, some, Option·none-ne-some}
 use mathlib.Core.List.{List, [], _∷_, _++_, append-assoc}
 use lib.ListN.{length, take, drop, length-append}
 use lib.Seq.{sets, sets-eq, length-sets, length-take-le, take-at, drop-at}
-use lib.Dec.{leb, ltb}
-use borrow.Author.Tests.{le-leb, leb-true, ltb-false, le-ltb}
-use Rattle.wire.specs.Choose.{pick, or}
+use borrow.Author.Tests.{le-ltb}
+use Rattle.wire.specs.Choose.{pick}
 use Rattle.wire.specs.Number.{AreBytes}
-use Rattle.wire.proofs.NumberLaws.{bytes-take}
 use Rattle.archive.specs.declared.verdict.Verdict.{Verdict}
 use Rattle.archive.specs.declared.verdict.Verdict.the-variants.{Accepted, Full, Trailer, Records, NoMessage, NoRecord}
-use Rattle.archive.specs.Form.{limit, written, messageFits, recordBytes, recordSize, recordsBytes, closingBytes, fileOf, fileSize}
-use Rattle.archive.specs.Records.{messagesIn, messagesTo}
+use Rattle.archive.specs.Form.{written, messageFits, recordBytes, recordSize, recordsBytes, closingBytes, fileOf, fileSize}
+use Rattle.archive.specs.Records.{messagesTo}
 use Rattle.archive.specs.Adding.{Outcome, refused, stores, isFull, addingTo, adding, closingTo, closing, keptBy, fileBy}
 use Rattle.archive.specs.Promises.{
   RecordsTo,
@@ -31,28 +29,10 @@ use Rattle.archive.specs.Promises.{
   AddChanges,
   CloseChanges,
 }
-use Rattle.archive.proofs.RecordLaws.{length-record, length-closing, length-file, cut-back, cut-is}
+use Rattle.archive.proofs.RecordLaws.{length-record, length-closing, length-file}
+use Rattle.archive.proofs.LeftLaws.{told-size, records-cut, cut-records}
+use Rattle.archive.proofs.AddLaws.{not-full}
 use Rattle.archive.proofs.ListLaws.{records-append}
-
--- ---- the records that a call is told of
-
-module _ (file : List ℕ) (told : ℕ) (ms : List (List ℕ)) where
-  pub told-size : RecordsTo file told ms → length (recordsBytes ms) ≡ told
-  told-size r = ap length (sym (r .records)) ∙ length-take-le told file (r .inside)
-
-  pub records-cut : RecordsTo file told ms → messagesTo file told ≡ some ms
-  unfolding messagesTo
-  records-cut r = rw (le-leb told (length file) (r .inside), r .records) (cut-back ms (r .messages))
-
-  pub cut-records : AreBytes file → messagesTo file told ≡ some ms → RecordsTo file told ms
-  unfolding messagesTo
-  cut-records b = go (leb told (length file)) refl
-    where
-      go : (c : Bool) → leb told (length file) ≡ c → pick c (messagesIn (take told file)) none ≡ some ms → RecordsTo file told ms
-      go true ec e =
-          let w = cut-is (take told file) ms (bytes-take told file b) e in
-          record { inside = leb-true told (length file) ec; records = w .0; messages = w .1 }
-      go false ec e = absurd (Option·none-ne-some ms e)
 
 -- ---- room
 
@@ -81,13 +61,9 @@ module _ (file : List ℕ) (ns : List (List ℕ)) (size n : ℕ) (e : length (fi
   z = fileSize written size n
 
   full-fits : isFull written (length file) size n ≡ false → Fits file ns
-  unfolding isFull
-  full-fits = go (ltb (length file) z) (ltb (limit written) z) refl refl
-    where
-      go : (a b : Bool) → ltb (length file) z ≡ a → ltb (limit written) z ≡ b → or a b ≡ false → Fits file ns
-      go true b ea eb q = absurd (true≢false q)
-      go false true ea eb q = absurd (true≢false q)
-      go false false ea eb q = record { in-file = rw e (ltb-false _ _ ea); in-limit = rw e (ltb-false _ _ eb) }
+  full-fits h =
+      let b = not-full written (length file) size n h in
+      record { in-file = rw e (b .0); in-limit = rw e (b .1) }
 
   fits-room : Fits file ns → isFull written (length file) size n ≡ false
   unfolding isFull
@@ -222,15 +198,6 @@ message-not e = let z : _≡_ {A = ℕ} 0 1 = cc in omega arith
 full-not : Full ≡ Accepted → ⊥
 full-not e = let z : _≡_ {A = ℕ} 0 1 = cc in omega arith
 
-room-for : (room size n : ℕ) → isFull written room size n ≡ false → fileSize written size n ≤ room
-unfolding isFull
-room-for room size n = go (ltb room (fileSize written size n)) refl
-  where
-    go : (c : Bool) → ltb room (fileSize written size n) ≡ c → or c (ltb (limit written) (fileSize written size n)) ≡ false
-        → fileSize written size n ≤ room
-    go true ec e = absurd (true≢false e)
-    go false ec e = ltb-false room (fileSize written size n) ec
-
 module _ (file : List ℕ) (told : ℕ) where
   add-stored : (m : List ℕ) → Stored (length file) told (recordBytes m) (adding file told m)
   unfolding adding
@@ -239,7 +206,8 @@ module _ (file : List ℕ) (told : ℕ) where
       room : (ms : List (List ℕ)) (c : Bool) → addFull file told m ms ≡ c
           → Stored (length file) told (recordBytes m) (pick c (refused Full) (stores (recordBytes m)))
       room ms true e = not-stored Full full-not
-      room ms false e = are-stored (omega (arith, room-for (length file) (told + recordSize m) (suc (length ms)) e, length-record m))
+      room ms false e =
+          are-stored (omega (arith, not-full written (length file) (told + recordSize m) (suc (length ms)) e, length-record m))
 
       message : (ms : List (List ℕ)) (c : Bool)
           → Stored (length file) told (recordBytes m)
@@ -259,7 +227,7 @@ module _ (file : List ℕ) (told : ℕ) where
       go : (c : Bool) → closeFull file told ms ≡ c
           → Stored (length file) told (closingBytes written ms) (pick c (refused Full) (stores (closingBytes written ms)))
       go true ec = not-stored Full full-not
-      go false ec = are-stored (omega (arith, room-for (length file) told (length ms) ec, length-closing written ms))
+      go false ec = are-stored (omega (arith, not-full written (length file) told (length ms) ec, length-closing written ms))
 
   close-refused : messagesTo file told ≡ none → Stored (length file) told [] (closing file told)
   unfolding closing

@@ -7,16 +7,17 @@ use mathlib.Core.List.{List, [], _∷_}
 use Prim.Native.Nat.{ℕ, zero, suc, _+_, _-_, _≤_, _<_}
 use native.Mathlib.Omega.{arith}
 use lib.ListN.{length, take, drop}
-use lib.Seq.{slice, length-slice}
+use lib.Seq.{slice, length-slice, length-take-le}
 use lib.Dec.{leb}
 use borrow.Author.Tests.{le-leb, leb-true}
 use Rattle.wire.specs.Choose.{pick}
 use Rattle.wire.specs.Number.{AreBytes}
 use Rattle.wire.proofs.NumberLaws.{bytes-take}
-use Rattle.archive.specs.Form.{AreMessages, recordsBytes}
+use Rattle.archive.specs.Form.{recordsBytes}
 use Rattle.archive.specs.Records.{lengthIn, messageIn, recordFits, before, cutAll, messagesIn, messagesTo}
 use Rattle.archive.specs.Walking.{cutSize, walkedFrom, isWhole, listed}
-use Rattle.archive.proofs.RecordLaws.{turns-enough, cut-is}
+use Rattle.archive.specs.Promises.{RecordsTo}
+use Rattle.archive.proofs.RecordLaws.{turns-enough, cut-back, cut-is}
 use Rattle.archive.proofs.WalkLaws.{cut-none, cut-more, cut-sized}
 
 -- ---- whole or not
@@ -114,7 +115,17 @@ module _ (file : List ℕ) (size : ℕ) where
   unfolding messagesTo
   from-start h = rw (le-leb size (length file) h)
 
-  -- whole records of messages are theirs
-  pub records-are : AreBytes file → (ms : List (List ℕ)) → size ≤ length file → messagesTo file size ≡ some ms
-      → (take size file ≡ recordsBytes ms) × AreMessages ms
-  records-are b ms h e = cut-is (take size file) ms (bytes-take size file b) (sym (from-start h) ∙ e)
+-- ---- the records that a call is told of
+
+module _ (file : List ℕ) (told : ℕ) (ms : List (List ℕ)) where
+  pub told-size : RecordsTo file told ms → length (recordsBytes ms) ≡ told
+  told-size r = ap length (sym (r .records)) ∙ length-take-le told file (r .inside)
+
+  pub records-cut : RecordsTo file told ms → messagesTo file told ≡ some ms
+  records-cut r = from-start file told (r .inside) ∙ rw (r .records) (cut-back ms (r .messages))
+
+  pub cut-records : AreBytes file → messagesTo file told ≡ some ms → RecordsTo file told ms
+  cut-records b e =
+      let h = whole-within file told (ap isWhole e) in
+      let w = cut-is (take told file) ms (bytes-take told file b) (sym (from-start file told h) ∙ e) in
+      record { inside = h; records = w .0; messages = w .1 }

@@ -4,28 +4,17 @@ use mathlib.Core.Path.{_≡_, refl, sym, ap, _∙_}
 use mathlib.Core.Bool.{Bool, true, false}
 use mathlib.Core.Option.{Option, none, some, Option·none-ne-some}
 use mathlib.Core.List.{List, [], _∷_, _++_, append-assoc}
-use Prim.Native.Nat.{ℕ, suc, _+_, _-_, _*_, _^_, _≤_, _<_}
+use Prim.Native.Nat.{ℕ, _+_, _-_, _*_, _^_, _≤_, _<_}
 use native.Mathlib.Omega.{arith}
 use lib.ListN.{length, take, drop, length-append, take-append-drop}
-use lib.Seq.{
-  slice,
-  take-take,
-  take-length,
-  take-append-le,
-  take-append-add,
-  drop-append-add,
-  drop-drop,
-  length-take-le,
-  length-slice,
-  slice-empty,
-}
+use lib.Seq.{slice, take-take, take-length, take-append-le, take-append-add, drop-append-add, drop-drop, length-slice, slice-empty}
 use lib.Dec.{ltb, eqb}
 use borrow.Author.Tests.{lt-ltb, le-ltb, ltb-false, le-leb, eqb-true, eq-eqb, ne-eqb}
 use Rattle.wire.specs.Choose.{pick, and, or}
 use Rattle.wire.specs.Number.{AreBytes, big, numberOf, numberBytes}
 use Rattle.wire.specs.Header.{fieldAt, sessionAt, sessionOf}
 use Rattle.wire.proofs.ChooseLaws.{and-left, and-right}
-use Rattle.wire.proofs.NumberLaws.{bytes-take, bytes-slice, bytes-back, number-back, length-numberBytes, read-below}
+use Rattle.wire.proofs.NumberLaws.{bytes-slice, bytes-back, number-back, length-numberBytes, read-below}
 use Rattle.wire.proofs.PartLaws.{cut-slice}
 use Rattle.archive.specs.declared.verdict.Verdict.{Verdict}
 use Rattle.archive.specs.declared.verdict.Verdict.the-variants.{Accepted, Trailer, Records}
@@ -48,7 +37,7 @@ use Rattle.archive.specs.Form.{
   closingBytes,
   fileOf,
 }
-use Rattle.archive.specs.Records.{messageIn, recordFits, before, cutAll, messagesIn, messagesTo}
+use Rattle.archive.specs.Records.{messageIn, recordFits, before, messagesIn, messagesTo}
 use Rattle.archive.specs.Opening.{
   trailerAt,
   indexAt,
@@ -65,8 +54,19 @@ use Rattle.archive.specs.Opening.{
 }
 use Rattle.archive.specs.Walking.{cutSize, walkedFrom, isWhole, listed, sessionIn, entryAgrees, Trailed}
 use Rattle.archive.proofs.FormLaws.{number-is, entry-is, limit-is, limit-fits}
-use Rattle.archive.proofs.RecordLaws.{turns-enough, length-entry, length-index, length-file, cut-is}
-use Rattle.archive.proofs.WalkLaws.{cut-end, cut-none, cut-more, cut-sized, size-of, session-there}
+use Rattle.archive.proofs.RecordLaws.{length-entry, length-index, length-file}
+use Rattle.archive.proofs.LeftLaws.{
+  whole-some,
+  walked-whole,
+  walked-count,
+  messagesFrom,
+  next-fits,
+  next-whole,
+  next-listed,
+  told-size,
+  cut-records,
+}
+use Rattle.archive.proofs.WalkLaws.{cut-end, cut-sized, size-of, session-there}
 
 true-false : true ≡ false → ⊥
 true-false e = let z : _≡_ {A = ℕ} 0 1 = cc in omega arith
@@ -168,51 +168,6 @@ module _ (file : List ℕ) (f : Form) (to at w v : ℕ) (ew : w ≡ offsetWidth 
   pub entry-two : v ≡ at → (a b : ℕ) → a ≡ fieldAt (to + w) 2 file → b ≡ sessionIn file at → eqb a b ≡ entryAgrees file f to at
   unfolding entryAgrees
   entry-two e a b ea eb = rw (← ew, ← ev, eq-eqb v at e, ← ea, ← eb)
-
--- ---- whole records, one by one
-
-before-whole : (m : List ℕ) (r : Option (List (List ℕ))) → isWhole (before m r) ≡ isWhole r
-before-whole m none = refl
-before-whole m (some ms) = refl
-
-before-listed : (m : List ℕ) (r : Option (List (List ℕ))) → isWhole r ≡ true → listed (before m r) ≡ m ∷ listed r
-before-listed m none e = absurd (true-false (sym e))
-before-listed m (some ms) e = refl
-
--- the messages of the records from `at` to `size`
-abbrev pub messagesFrom : List ℕ → ℕ → ℕ → Option (List (List ℕ))
-messagesFrom file at size = messagesIn (slice at size file)
-
-module _ (file : List ℕ) (at size : ℕ) (under : at < size) (inside : size ≤ length file) (whole : isWhole (messagesFrom file at size) ≡ true) where
-  long : length (slice at size file) ≡ suc (size - at - 1)
-  long = length-slice at size file inside ∙ omega arith
-
-  -- a record stands there
-  pub next-fits : recordFits (slice at size file) ≡ true
-  next-fits = go (recordFits (slice at size file)) refl
-    where
-      go : (c : Bool) → recordFits (slice at size file) ≡ c → c ≡ true
-      go true e = refl
-      go false e =
-          let n : messagesFrom file at size ≡ none = ap (λ n. cutAll n (slice at size file)) long ∙ cut-none file at size under inside (size - at - 1) e in
-          rw n at whole
-
-  abbrev next : ℕ
-  next = at + cutSize (slice at size file)
-
-  next-is : messagesFrom file at size ≡ before (messageIn (slice at size file)) (messagesFrom file next size)
-  next-is =
-      let l = length-slice next size file inside in
-      let few : length (slice next size file) ≤ size - at - 1 = omega (arith, cut-sized file at size under inside next-fits) in
-      ap (λ n. cutAll n (slice at size file)) long
-      ∙ cut-more file at size under inside next-fits (size - at - 1)
-      ∙ ap (before (messageIn (slice at size file))) (turns-enough (size - at - 1) (length (slice next size file)) (slice next size file) few (omega arith))
-
-  pub next-whole : isWhole (messagesFrom file next size) ≡ true
-  next-whole = sym (before-whole (messageIn (slice at size file)) (messagesFrom file next size)) ∙ ap isWhole (sym next-is) ∙ whole
-
-  pub next-listed : listed (messagesFrom file at size) ≡ messageIn (slice at size file) ∷ listed (messagesFrom file next size)
-  next-listed = ap listed next-is ∙ before-listed (messageIn (slice at size file)) (messagesFrom file next size) next-whole
 
 -- ---- the loop over records and entries
 
@@ -371,18 +326,6 @@ form-back k One e = eqb-true k 1 (go (eqb k 1) e)
     go true q = refl
     go false q = absurd (Option·none-ne-some One q)
 
-whole-some : (r : Option (List (List ℕ))) → isWhole r ≡ true → r ≡ some (listed r)
-whole-some none e = absurd (true-false (sym e))
-whole-some (some ms) e = refl
-
-walked-whole : (r : Option (List (List ℕ))) → (walkedFrom 0 r) .whole ≡ isWhole r
-walked-whole none = refl
-walked-whole (some ms) = refl
-
-walked-count : (r : Option (List (List ℕ))) → (walkedFrom 0 r) .count ≡ length (listed r)
-walked-count none = refl
-walked-count (some ms) = omega arith
-
 module _ (file : List ℕ) (are : AreBytes file) where
   -- the bytes of a field are those of its number
   field-bytes : (at w : ℕ) → at + w ≤ length file → numberBytes big w (fieldAt at w file) ≡ slice at (at + w) file
@@ -390,12 +333,6 @@ module _ (file : List ℕ) (are : AreBytes file) where
   field-bytes at w h =
       let l : length (slice at (at + w) file) ≡ w = length-slice at (at + w) file h ∙ omega arith in
       rw l at (bytes-back (slice at (at + w) file) (bytes-slice at (at + w) file are))
-
-  -- whole records of messages are theirs
-  pub records-are : (size : ℕ) (ms : List (List ℕ)) → size ≤ length file → messagesTo file size ≡ some ms
-      → (take size file ≡ recordsBytes ms) × AreMessages ms
-  unfolding messagesTo
-  records-are size ms h e = cut-is (take size file) ms (bytes-take size file are) (rw (le-leb size (length file) h) at e)
 
   module _ (f : Form) (size n end : ℕ) (t : Trailed file f size n end) where
     inside : size ≤ length file
@@ -428,7 +365,7 @@ module _ (file : List ℕ) (are : AreBytes file) where
 
     module _ (ms : List (List ℕ)) (is : messagesTo file size ≡ some ms) where
       records-long : length (recordsBytes ms) ≡ size
-      records-long = sym (ap length (records-are size ms inside is .0)) ∙ length-take-le size file inside
+      records-long = told-size file size ms (cut-records file size ms are is)
 
       count-other : (length ms ≡ n → ⊥) → same file (fileOf f ms) ≡ false
       count-other other =
@@ -443,7 +380,7 @@ module _ (file : List ℕ) (are : AreBytes file) where
       file-cut : file ≡ recordsBytes ms ++ (slice size end file ++ trailerBytes f size n)
       file-cut =
           let s = rw (take-length file) at (slice-split size end (length file) file (omega (arith, t .index-in)) (omega (arith, t .whole))) in
-          sym (take-append-drop size file) ∙ rw (records-are size ms inside is .0, s, trailer-is)
+          sym (take-append-drop size file) ∙ rw (cut-records file size ms are is .records, s, trailer-is)
 
       index-decides : length ms ≡ n → size + entrySize f * n ≡ end → same file (fileOf f ms) ≡ same (slice size end file) (indexBytes f 0 ms)
       unfolding fileOf closingBytes
@@ -601,7 +538,7 @@ open-holds file are f ms e = short (ltb (length file) trailerLen) e
     all ns false en h l es q = absurd (refused-holds Records f ms q)
     all ns true en h l es q =
         let n : ns ≡ ms = cc in
-        record { file-is = rw (← n) (same-is file (fileOf f ns) es); messages = rw (← n) (records-are file are (indexAt file) ns h en .1); most = l }
+        record { file-is = rw (← n) (same-is file (fileOf f ns) es); messages = rw (← n) (cut-records file (indexAt file) ns are en .messages); most = l }
 
     whole : (r : Option (List (List ℕ))) → messagesTo file (indexAt file) ≡ r → indexAt file ≤ length file → length file ≤ limit f
         → checked file f r ≡ holds f ms → Holding file f ms
