@@ -27,4 +27,11 @@ three-hold = record {
 
 pub cases-hold : CasesHold
 unfolding numberOf numberBytes fieldAt messageFits recordBytes recordsBytes entryBytes indexBytes trailerBytes closingBytes fileOf recordFits cutAll messagesTo isFull adding closing same outgrows archiveOf firstOf messageA addCases openCases
-cases-hold = record { three-hold = three-hold; adds-hold = refl; opens-hold = refl; closes-hold = refl; no-room = refl; refuses-hold = refl }
+cases-hold = record {
+  three-hold = three-hold;
+  adds-hold = refl;
+  opens-hold = refl;
+  closes-hold = refl;
+  no-room = refl;
+  refuses-hold = refl;
+}

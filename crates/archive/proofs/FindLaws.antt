@@ -142,18 +142,18 @@ module _ (f : Form) (ms : List (List ℕ)) (a : AreMessages ms) (are : AreBytes 
       let z : 0 + offsetAt ms i ≡ offsetAt ms i = omega arith in
       field-behind (recordsBytes ms) (closingBytes f ms) (entrySize f * i + k) w ∙ rw z at (index-field f 0 ms (trailerBytes f (length (recordsBytes ms)) (length ms)) i k w h l)
 
-  file-offset : fieldAt (length (recordsBytes ms) + entrySize f * i) (offsetWidth f) (fileOf f ms) ≡ offsetAt ms i
+  pub file-offset : fieldAt (length (recordsBytes ms) + entrySize f * i) (offsetWidth f) (fileOf f ms) ≡ offsetAt ms i
   file-offset =
       let e : length (recordsBytes ms) + (entrySize f * i + 0) ≡ length (recordsBytes ms) + entrySize f * i = omega arith in
       rw e at (index-at 0 (offsetWidth f) (omega arith)) ∙ entry-offset f (offsetAt ms i) (messageAt ms i) small-offset
 
-  file-session : fieldAt (length (recordsBytes ms) + entrySize f * i + offsetWidth f) 2 (fileOf f ms) ≡ sessionOf (messageAt ms i)
+  pub file-session : fieldAt (length (recordsBytes ms) + entrySize f * i + offsetWidth f) 2 (fileOf f ms) ≡ sessionOf (messageAt ms i)
   file-session =
       let w = offsetWidth f in
       let e : length (recordsBytes ms) + (entrySize f * i + w) ≡ length (recordsBytes ms) + entrySize f * i + w = omega arith in
       rw e at (index-at w 2 (omega arith)) ∙ entry-session f (offsetAt ms i) (messageAt ms i) small-session
 
-  file-length : fieldAt (offsetAt ms i) 2 (fileOf f ms) ≡ length (messageAt ms i)
+  pub file-length : fieldAt (offsetAt ms i) 2 (fileOf f ms) ≡ length (messageAt ms i)
   unfolding fileOf
   file-length = record-length ms (closingBytes f ms) i a h
 

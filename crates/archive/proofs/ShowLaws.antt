@@ -19,13 +19,13 @@ use Rattle.wire.proofs.PartLaws.{part-inside}
 use Rattle.archive.specs.declared.verdict.Verdict.the-variants.{Accepted, NoRecord}
 use Rattle.archive.specs.declared.form.Form.{Form}
 use Rattle.archive.specs.declared.find.Found.{Found}
-use Rattle.archive.specs.Form.{limit, written, recordBytes, recordsBytes, closingBytes, fileOf}
-use Rattle.archive.specs.Opening.{indexAt, Archive, refused, holds, archiveOf, openingBy}
+use Rattle.archive.specs.Form.{limit, written, AreMessages, recordBytes, recordsBytes, closingBytes, fileOf}
+use Rattle.archive.specs.Opening.{Archive, refused, holds, archiveOf, openingBy}
 use Rattle.archive.specs.Finding.{messageAt, offsetAt, noneFound, nth, readingBy, counted, firstOf, findingBy}
-use Rattle.archive.specs.Walking.{Opened}
 use Rattle.archive.specs.Promises.{PlaceLaw, HeldByByte, ReadLaw, ReadsNth, FirstWith, FindLaw, FindsFirst, RefusesAsOpening}
+use Rattle.archive.proofs.RecordLaws.{length-file}
 use Rattle.archive.proofs.OpenLaws.{file-index, file-entries}
-use Rattle.archive.proofs.FindLaws as find
+use Rattle.archive.proofs.FindLaws.{file-offset, file-session, file-length}
 use Rattle.archive.proofs.ByteLaws.{field-two}
 use Rattle.archive.proofs.AcceptLaws.{held-is}
 use Rattle.archive.proofs.ListLaws.{slice-middle, records-append}
@@ -53,6 +53,9 @@ module _ (f : Form) (ms : List (List ℕ)) (i : ℕ) (h : i < length ms) where
       ap recordsBytes (split-at ms i [] h) ∙ records-append (take i ms) (m ∷ drop (suc i) ms) in
       ap (λ l. l ++ closingBytes f ms) split ∙ simp append-assoc
 
+  offset-in : offsetAt ms i + 2 ≤ length (fileOf f ms)
+  offset-in = omega (arith, ap length file-around, length-append front (m ++ rest), length-front)
+
   message-slice : slice (offsetAt ms i + 2) (offsetAt ms i + 2 + length m) (fileOf f ms) ≡ m
   message-slice = rw (file-around, ← length-front) (slice-middle front m rest (length m) refl)
 
@@ -64,36 +67,31 @@ module _ (f : Form) (ms : List (List ℕ)) (i : ℕ) (h : i < length ms) where
 
 -- ---- an accepted file by byte number
 
-module _ (file : List ℕ) (ms : List (List ℕ)) (b : AreBytes file) (e : archiveOf file ≡ holds written ms) where
-  abbrev at : ℕ
-  at = length (recordsBytes ms)
-
-  small : length (fileOf written ms) ≤ limit written
-  small = let (is, are, few) = held-is file written ms e in rw (← is) few
-
-  index-is : indexAt file ≡ at
-  index-is = rw (held-is file written ms e .0) (file-index written ms small)
-
-  place-law : (i : ℕ) → i < length ms → PlaceLaw file ms i
-  place-law i h =
-      let o : Opened file at (length ms) = ap openingBy e in
-      let entry : at + 4 * i + 4 ≤ length file = find.entry-in file written at (length ms) o b i h in
-      let inside : offsetAt ms i + 2 ≤ length file = rw e at (find.record-there file written at (length ms) o b i h) in
-      record {
-        record-length = sym (field-two (offsetAt ms i) file inside) ∙ rw e at (find.length-is file written at (length ms) o b i h);
-        record-message = rw (held-is file written ms e .0) (message-slice written ms i h);
-        entry-offset =
-            rw index-is (sym (field-two (at + 4 * i) file (omega arith)) ∙ rw e at (find.offset-is file written at (length ms) o b i h));
-        entry-session =
-            rw index-is (sym (field-two (at + 4 * i + 2) file (omega arith)) ∙ rw e at (find.session-is file written at (length ms) o b i h));
-      }
+place-law : (ms : List (List ℕ)) → AreMessages ms → AreBytes (fileOf written ms) → length (fileOf written ms) ≤ limit written
+    → (i : ℕ) → i < length ms → PlaceLaw (fileOf written ms) ms i
+place-law ms a b few i h =
+    let at = length (recordsBytes ms) in
+    let entry : at + 4 * i + 4 ≤ length (fileOf written ms) = omega (arith, length-file written ms) in
+    record {
+      record-length = sym (field-two (offsetAt ms i) (fileOf written ms) (offset-in written ms i h)) ∙ file-length written ms a b few i h;
+      record-message = message-slice written ms i h;
+      entry-offset =
+          rw (file-index written ms few)
+          (sym (field-two (at + 4 * i) (fileOf written ms) (omega arith)) ∙ file-offset written ms a b few i h);
+      entry-session =
+          rw (file-index written ms few)
+          (sym (field-two (at + 4 * i + 2) (fileOf written ms) (omega arith)) ∙ file-session written ms a b few i h);
+    }
 
 pub held-by-byte : HeldByByte
-held-by-byte file ms b e = record {
-  index-at = index-is file ms b e;
-  entries-are = rw (held-is file written ms e .0) (file-entries written ms (small file ms b e));
-  places = place-law file ms b e;
-}
+held-by-byte file ms b e =
+    let (is, are, few) = held-is file written ms e in
+    rw is
+    (record {
+      index-at = file-index written ms (rw (← is) few);
+      entries-are = file-entries written ms (rw (← is) few);
+      places = place-law ms are (rw (← is) b) (rw (← is) few);
+    })
 
 -- ---- reading
 

@@ -123,8 +123,8 @@ pub record HeldLaw (file : List ℕ) (ms : List (List ℕ)) : Type 0 where
   pub entries-are : entriesIn file ≡ length ms
   pub places : (i : ℕ) → i < length ms → PlaceLaw file ms i
 
--- A9. In an accepted file each record is two bytes of length and the message, each entry that record's offset and Session ID; the trailer says
--- where the index begins and how many entries it has.
+-- A9. In an accepted file each record is two bytes of length and the message, each entry that record's offset and Session ID; the trailer
+-- says where the index begins and how many entries it has.
 abbrev pub HeldByByte : Type 0
 HeldByByte = (file : List ℕ) (ms : List (List ℕ)) → AreBytes file → archiveOf file ≡ holds written ms → HeldLaw file ms
 
