@@ -23,6 +23,7 @@ use Rattle.archive.specs.Form.{
   offsetWidth,
   entrySize,
   limit,
+  written,
   messageFits,
   AreMessages,
   recordBytes,
@@ -39,7 +40,9 @@ use Rattle.archive.specs.Finding.{messageAt, offsetAt, noneFound, readin
 use Rattle.archive.specs.Walking.{Opened}
 use Rattle.archive.proofs.FormLaws.{width-is, entry-is, limit-fits}
 use Rattle.archive.proofs.RecordLaws.{length-record, length-entry, length-file, message-least, message-most}
-use Rattle.archive.proofs.OpenLaws.{field-behind, field-before, one-form, Holding, open-holds, refused-why}
+use Rattle.archive.proofs.OpenLaws.{field-behind, field-before, one-form}
+use Rattle.archive.proofs.VerdictLaws.{verdict-one}
+use Rattle.archive.proofs.AcceptLaws.{held-is, is-held, open-verdicts}
 
 -- ---- an index entry's fields
 
@@ -124,8 +127,8 @@ record-length (m ∷ ms) rest (suc i) a h =
 
 -- ---- the fields of a file of messages
 
-module _ (f : Form) (ms : List (List ℕ)) (a : AreMessages ms) (are : AreBytes (fileOf f ms)) (small : length (fileOf f ms) ≤ limit f) (i : ℕ)
-    (h : i < length ms) where
+module _ (f : Form) (ms : List (List ℕ)) (a : AreMessages ms) (are : AreBytes (fileOf f ms)) (small : length (fileOf f ms) ≤ limit f)
+    (i : ℕ) (h : i < length ms) where
   small-offset : offsetAt ms i < 256 ^ offsetWidth f
   small-offset = omega (arith, record-in ms i h, length-file f ms, limit-fits f)
 
@@ -136,11 +139,13 @@ module _ (f : Form) (ms : List (List ℕ)) (a : AreMessages ms) (are : AreBytes 
       (message-bytes ms i (bytes-left (recordsBytes ms) (closingBytes f ms) are) h)
 
   index-at : (k w : ℕ) → k + w ≤ entrySize f
-      → fieldAt (length (recordsBytes ms) + (entrySize f * i + k)) w (fileOf f ms) ≡ fieldAt k w (entryBytes f (offsetAt ms i) (messageAt ms i))
+      → fieldAt (length (recordsBytes ms) + (entrySize f * i + k)) w (fileOf f ms)
+      ≡ fieldAt k w (entryBytes f (offsetAt ms i) (messageAt ms i))
   unfolding fileOf closingBytes
   index-at k w l =
       let z : 0 + offsetAt ms i ≡ offsetAt ms i = omega arith in
-      field-behind (recordsBytes ms) (closingBytes f ms) (entrySize f * i + k) w ∙ rw z at (index-field f 0 ms (trailerBytes f (length (recordsBytes ms)) (length ms)) i k w h l)
+      let last = trailerBytes f (length (recordsBytes ms)) (length ms) in
+      field-behind (recordsBytes ms) (closingBytes f ms) (entrySize f * i + k) w ∙ rw z at (index-field f 0 ms last i k w h l)
 
   pub file-offset : fieldAt (length (recordsBytes ms) + entrySize f * i) (offsetWidth f) (fileOf f ms) ≡ offsetAt ms i
   file-offset =
@@ -158,6 +163,14 @@ module _ (f : Form) (ms : List (List ℕ)) (a : AreMessages ms) (are : AreBytes 
   file-length = record-length ms (closingBytes f ms) i a h
 
 -- ---- what the answer to opening says
+
+-- a refusal has a number above 0
+refused-why : (file : List ℕ) (v : Verdict) → archiveOf file ≡ refused v → verdictNumber v ≡ 0 → ⊥
+refused-why file v e z =
+    let (ms, is, are, few) = open-verdicts file Accepted .0 (ap (λ x. openingBy x .verdict) e ∙ verdict-one v Accepted z) in
+    let held = is-held file written ms is are few in
+    let n : _≡_ {A = ℕ} 0 1 = cc in
+    omega arith
 
 -- the messages of an archive
 abbrev pub heldBy : Archive → List (List ℕ)
@@ -215,29 +228,30 @@ module _ (file : List ℕ) (f : Form) (size count : ℕ) (o : Opened file size c
   shown-past zero h = absurd (omega arith)
   shown-past (suc i) h = sym (ap (readingBy (suc i)) (is .0) ∙ rw (le-ltb i (length ms) (omega (arith, is .2))))
 
-  shown-nth : (i : ℕ) → i < count → record { verdict = Accepted; number = suc i; message = part (offsetAt ms i + 2) (length (messageAt ms i)) }
+  shown-nth : (i : ℕ) → i < count
+      → record { verdict = Accepted; number = suc i; message = part (offsetAt ms i + 2) (length (messageAt ms i)) }
       ≡ readingBy (suc i) (archiveOf file)
   shown-nth i h = sym (ap (readingBy (suc i)) (is .0) ∙ rw (lt-ltb i (length ms) (omega (arith, is .2))))
 
   module _ (are : AreBytes file) where
-    whole : Holding file f ms
-    whole = open-holds file are f ms (is .0)
+    whole : (file ≡ fileOf f ms) × AreMessages ms × (length file ≤ limit f)
+    whole = held-is file f ms (is .0)
 
     module _ (i : ℕ) (h : i < count) where
       there : i < length ms
       there = omega (arith, is .2)
 
       in-file : {A : Type 0} (g : List ℕ → A) (x : A) → g (fileOf f ms) ≡ x → g file ≡ x
-      in-file g x e = ap g (whole .file-is) ∙ e
+      in-file g x e = ap g (whole .0) ∙ e
 
       are-file : AreBytes (fileOf f ms)
-      are-file = subst AreBytes (whole .file-is) are
+      are-file = subst AreBytes (whole .0) are
 
       most-file : length (fileOf f ms) ≤ limit f
-      most-file = subst (λ x. length x ≤ limit f) (whole .file-is) (whole .most)
+      most-file = subst (λ x. length x ≤ limit f) (whole .0) (whole .2)
 
       file-long : length file ≡ size + entrySize f * count + 8
-      file-long = ap length (whole .file-is) ∙ length-file f ms ∙ rw (is .1, is .2)
+      file-long = ap length (whole .0) ∙ length-file f ms ∙ rw (is .1, is .2)
 
       -- the entry that i entries precede
       entry-in : size + entrySize f * i + entrySize f + 8 ≤ length file
@@ -247,14 +261,14 @@ module _ (file : List ℕ) (f : Form) (size count : ℕ) (o : Opened file size c
           omega (arith, file-long, entry-is f)
 
       offset-is : fieldAt (size + entrySize f * i) (offsetWidth f) file ≡ offsetAt ms i
-      offset-is = rw (is .1) (in-file (fieldAt _ _) _ (file-offset f ms (whole .messages) are-file most-file i there))
+      offset-is = rw (is .1) (in-file (fieldAt _ _) _ (file-offset f ms (whole .1) are-file most-file i there))
 
       session-is : fieldAt (size + entrySize f * i + offsetWidth f) 2 file ≡ sessionOf (messageAt ms i)
-      session-is = rw (is .1) (in-file (fieldAt _ _) _ (file-session f ms (whole .messages) are-file most-file i there))
+      session-is = rw (is .1) (in-file (fieldAt _ _) _ (file-session f ms (whole .1) are-file most-file i there))
 
       -- its record
       length-is : fieldAt (offsetAt ms i) 2 file ≡ length (messageAt ms i)
-      length-is = in-file (fieldAt _ _) _ (file-length f ms (whole .messages) are-file most-file i there)
+      length-is = in-file (fieldAt _ _) _ (file-length f ms (whole .1) are-file most-file i there)
 
       record-there : offsetAt ms i + 2 ≤ length file
       record-there = omega (arith, record-in ms i there, file-long, is .1)
@@ -329,6 +343,15 @@ pub record Seeking (file : List ℕ) (f : Form) (o : Opening) (session i at : �
   pub place : at ≡ o .size + entrySize f * i + offsetWidth f
   pub left : firstIn session (archiveOf file) ≡ numbered i (firstOf session (drop i (heldBy (archiveOf file))))
 
+pub seek-small : (file : List ℕ) (f : Form) (o : Opening) → o ≡ openingBy (archiveOf file) → o .size ≤ limit f
+seek-small file f o eo = rw eo (go (archiveOf file) refl)
+  where
+    go : (a : Archive) → archiveOf file ≡ a → openingBy a .size ≤ limit f
+    go (refused v) e = omega arith
+    go (holds g ms) e =
+        let (is, are, few) = held-is file f ms (e ∙ ap (λ x. holds x ms) (one-form g f)) in
+        omega (arith, ap length is, length-file f ms)
+
 module _ (file : List ℕ) (f : Form) (o : Opening) (eo : o ≡ openingBy (archiveOf file)) (session : ℕ) where
   pub seek-start : (w : ℕ) → w ≡ offsetWidth f → Seeking file f o session 0 (o .size + w)
   seek-start w ew = record { within = omega arith; place = omega arith; left = first-start session (archiveOf file) }
@@ -337,15 +360,6 @@ module _ (file : List ℕ) (f : Form) (o : Opening) (eo : o ≡ openingBy (archi
   seek-end i at s h = sym (s .left ∙ first-none session (heldBy (archiveOf file)) i (omega (arith, held-count file o eo)))
 
   module _ (are : AreBytes file) where
-    pub seek-small : o .size ≤ limit f
-    seek-small = rw eo (go (archiveOf file) refl)
-      where
-        go : (a : Archive) → archiveOf file ≡ a → (openingBy a) .size ≤ limit f
-        go (refused v) e = omega arith
-        go (holds g ms) e =
-            let h = open-holds file are f ms (e ∙ ap (λ x. holds x ms) (one-form g f)) in
-            omega (arith, h .most, ap length (h .file-is), length-file f ms)
-
     module _ (i at : ℕ) (s : Seeking file f o session i at) (more : i < o .entries) where
       found : Opened file (o .size) (o .entries)
       found = opened-some file o eo (omega arith)

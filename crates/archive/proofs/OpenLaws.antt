@@ -1,7 +1,7 @@
 -- Bytes that are the same, an index entry that is that of a record, and what opening a file comes to.
 -- Assumes nothing.
 use mathlib.Core.Path.{_≡_, refl, sym, ap, _∙_}
-use mathlib.Core.Bool.{Bool, true, false}
+use mathlib.Core.Bool.{Bool, true, false, true≢false}
 use mathlib.Core.Option.{Option, none, some, Option·none-ne-some}
 use mathlib.Core.List.{List, [], _∷_, _++_, append-assoc}
 use Prim.Native.Nat.{ℕ, _+_, _-_, _*_, _^_, _≤_, _<_}
@@ -9,26 +9,24 @@ use native.Mathlib.Omega.{arith}
 use lib.ListN.{length, take, drop, length-append, take-append-drop}
 use lib.Seq.{slice, take-take, take-length, take-append-le, take-append-add, drop-append-add, drop-drop, length-slice, slice-empty}
 use lib.Dec.{ltb, eqb}
-use borrow.Author.Tests.{lt-ltb, le-ltb, ltb-false, le-leb, eqb-true, eq-eqb, ne-eqb}
-use Rattle.wire.specs.Choose.{pick, and, or}
+use borrow.Author.Tests.{lt-ltb, le-ltb, le-leb, eqb-true, eq-eqb, ne-eqb}
+use Rattle.wire.specs.Choose.{pick, and}
 use Rattle.wire.specs.Number.{AreBytes, big, numberOf, numberBytes}
 use Rattle.wire.specs.Header.{fieldAt, sessionAt, sessionOf}
 use Rattle.wire.proofs.ChooseLaws.{and-left, and-right}
 use Rattle.wire.proofs.NumberLaws.{bytes-slice, bytes-back, number-back, length-numberBytes, read-below}
 use Rattle.wire.proofs.PartLaws.{cut-slice}
-use Rattle.archive.specs.declared.verdict.Verdict.{Verdict}
 use Rattle.archive.specs.declared.verdict.Verdict.the-variants.{Accepted, Trailer, Records}
 use Rattle.archive.specs.declared.form.Form.{Form}
 use Rattle.archive.specs.declared.form.Form.the-variants.{One}
 use Rattle.archive.specs.declared.records.Walked.{Walked}
-use Rattle.archive.specs.Verdict.{verdictNumber}
+use Rattle.archive.specs.declared.open.Opening.{Opening}
 use Rattle.archive.specs.Form.{
   formNumber,
   formOf,
   offsetWidth,
   entrySize,
   limit,
-  AreMessages,
   recordsBytes,
   entryBytes,
   indexBytes,
@@ -37,7 +35,7 @@ use Rattle.archive.specs.Form.{
   closingBytes,
   fileOf,
 }
-use Rattle.archive.specs.Records.{messageIn, recordFits, before, messagesIn, messagesTo}
+use Rattle.archive.specs.Records.{messageIn, recordFits, messagesIn, messagesTo}
 use Rattle.archive.specs.Opening.{
   trailerAt,
   indexAt,
@@ -67,9 +65,6 @@ use Rattle.archive.proofs.LeftLaws.{
   cut-records,
 }
 use Rattle.archive.proofs.WalkLaws.{cut-end, cut-sized, size-of, session-there}
-
-true-false : true ≡ false → ⊥
-true-false e = let z : _≡_ {A = ℕ} 0 1 = cc in omega arith
 
 -- ---- the same bytes
 
@@ -110,7 +105,8 @@ same-append (x ∷ xs) [] zs ws e = absurd (omega arith)
 same-append (x ∷ xs) (y ∷ ys) zs ws e = rw (same-append xs ys zs ws (omega arith)) (and-more (eqb x y) (same xs ys) (same zs ws))
 
 -- bytes are those of a number exactly when their number is it
-pub same-number : (xs : List ℕ) (w v : ℕ) → AreBytes xs → length xs ≡ w → v < 256 ^ w → same xs (numberBytes big w v) ≡ eqb (numberOf big xs) v
+pub same-number : (xs : List ℕ) (w v : ℕ) → AreBytes xs → length xs ≡ w → v < 256 ^ w
+    → same xs (numberBytes big w v) ≡ eqb (numberOf big xs) v
 same-number xs w v h l b = same-by (eqb (numberOf big xs) v) xs (numberBytes big w v) to from
   where
     to : eqb (numberOf big xs) v ≡ true → xs ≡ numberBytes big w v
@@ -129,7 +125,8 @@ slice-split a b c l h k =
 -- ---- an index entry
 
 module _ (file : List ℕ) (are : AreBytes file) where
-  same-field : (at w v : ℕ) → at + w ≤ length file → v < 256 ^ w → same (slice at (at + w) file) (numberBytes big w v) ≡ eqb (fieldAt at w file) v
+  same-field : (at w v : ℕ) → at + w ≤ length file → v < 256 ^ w
+      → same (slice at (at + w) file) (numberBytes big w v) ≡ eqb (fieldAt at w file) v
   unfolding fieldAt
   same-field at w v h b =
       same-number (slice at (at + w) file) w v (bytes-slice at (at + w) file are) (length-slice at (at + w) file h ∙ omega arith) b
@@ -227,7 +224,8 @@ module _ (file : List ℕ) (f : Form) (size end : ℕ) (told : Told file f size 
 
       module _ (are : AreBytes file) where
         entry-left : same (slice to end file) (indexBytes f at (listed (messagesFrom file at size)))
-            ≡ and (entryAgrees file f to at) (same (slice (to + entrySize f) end file) (indexBytes f then (listed (messagesFrom file then size))))
+            ≡ and (entryAgrees file f to at)
+            (same (slice (to + entrySize f) end file) (indexBytes f then (listed (messagesFrom file then size))))
         unfolding indexBytes
         entry-left =
             let l : length (slice to (to + entrySize f) file) ≡ length (entryBytes f at m) =
@@ -241,7 +239,8 @@ module _ (file : List ℕ) (f : Form) (size end : ℕ) (told : Told file f size 
                   (session-there file at size more within record-there),
             )
 
-        pub going-no : entryAgrees file f to at ≡ false → false ≡ same (slice size end file) (indexBytes f 0 (listed (messagesTo file size)))
+        pub going-no : entryAgrees file f to at ≡ false
+            → false ≡ same (slice size end file) (indexBytes f 0 (listed (messagesTo file size)))
         going-no e = sym (g .left ∙ entry-left ∙ rw e)
 
         pub going-on : entryAgrees file f to at ≡ true → (k n : ℕ) → k ≡ cutSize (slice at size file) → n ≡ entrySize f
@@ -369,25 +368,29 @@ module _ (file : List ℕ) (are : AreBytes file) where
 
       count-other : (length ms ≡ n → ⊥) → same file (fileOf f ms) ≡ false
       count-other other =
-          same-by false file (fileOf f ms) (λ q. absurd (true-false (sym q)))
+          same-by false file (fileOf f ms) (λ q. absurd (true≢false (sym q)))
           (λ q. absurd (other (sym (t .entries-are ∙ ap entriesIn q ∙ file-entries f ms (rw q at (t .most))))))
+
+      entries-long : length ms ≡ n → entrySize f * length ms ≡ entrySize f * n
+      entries-long en = ap (entrySize f *_) en
 
       end-other : length ms ≡ n → (size + entrySize f * n ≡ end → ⊥) → same file (fileOf f ms) ≡ false
       end-other en other =
-          same-by false file (fileOf f ms) (λ q. absurd (true-false (sym q)))
-          (λ q. absurd (other (let l = ap length q ∙ length-file f ms in let m : entrySize f * length ms ≡ entrySize f * n = rw en in omega (arith, records-long, t .whole))))
+          same-by false file (fileOf f ms) (λ q. absurd (true≢false (sym q)))
+          (λ q. absurd (other (let l = ap length q ∙ length-file f ms in omega (arith, records-long, t .whole, entries-long en))))
 
       file-cut : file ≡ recordsBytes ms ++ (slice size end file ++ trailerBytes f size n)
       file-cut =
-          let s = rw (take-length file) at (slice-split size end (length file) file (omega (arith, t .index-in)) (omega (arith, t .whole))) in
+          let p = slice-split size end (length file) file (omega (arith, t .index-in)) (omega (arith, t .whole)) in
+          let s = rw (take-length file) at p in
           sym (take-append-drop size file) ∙ rw (cut-records file size ms are is .records, s, trailer-is)
 
-      index-decides : length ms ≡ n → size + entrySize f * n ≡ end → same file (fileOf f ms) ≡ same (slice size end file) (indexBytes f 0 ms)
+      index-decides : length ms ≡ n → size + entrySize f * n ≡ end
+          → same file (fileOf f ms) ≡ same (slice size end file) (indexBytes f 0 ms)
       unfolding fileOf closingBytes
       index-decides en ends =
-          let m : entrySize f * length ms ≡ entrySize f * n = rw en in
           let l : length (slice size end file) ≡ length (indexBytes f 0 ms) =
-          length-slice size end file (omega (arith, t .whole)) ∙ omega (arith, length-index f 0 ms) in
+          length-slice size end file (omega (arith, t .whole)) ∙ omega (arith, length-index f 0 ms, entries-long en) in
           let last = trailerBytes f size n in
           ap (λ x. same x (fileOf f ms)) file-cut
           ∙ rw (
@@ -407,7 +410,7 @@ module _ (file : List ℕ) (are : AreBytes file) where
 
       torn : (r : Option (List (List ℕ))) → isWhole r ≡ false → openingBy (refused Records) ≡ openingBy (checked file f r)
       torn none e = refl
-      torn (some ms) e = absurd (true-false e)
+      torn (some ms) e = absurd (true≢false e)
 
       pub check-torn : w .whole ≡ false → openingBy (refused Records) ≡ openingBy (checked file f r)
       check-torn e = torn r (sym (walked-whole r) ∙ ap (λ (x : Walked). x .whole) (sym ew) ∙ e)
@@ -416,7 +419,8 @@ module _ (file : List ℕ) (are : AreBytes file) where
         is : r ≡ some (listed r)
         is = whole-some r (sym (walked-whole r) ∙ ap (λ (x : Walked). x .whole) (sym ew) ∙ whole)
 
-        found : (b : Bool) → same file (fileOf f (listed r)) ≡ b → openingBy (checked file f r) ≡ openingBy (pick b (holds f (listed r)) (refused Records))
+        found : (b : Bool) → same file (fileOf f (listed r)) ≡ b
+            → openingBy (checked file f r) ≡ openingBy (pick b (holds f (listed r)) (refused Records))
         found b e = ap (λ x. openingBy (checked file f x)) is ∙ rw e
 
         counted : w .count ≡ length (listed r)
@@ -459,13 +463,6 @@ form-of One = refl
 form-none : (f : Form) (k : ℕ) → (k ≡ formNumber f → ⊥) → formOf k ≡ none
 form-none One k other = rw (ne-eqb k 1 other)
 
-or-none : (a b : Bool) → a ≡ false → b ≡ false → or a b ≡ false
-or-none a b ea eb = rw (ea, eb)
-
-or-last : (a b : Bool) → b ≡ true → or a b ≡ true
-or-last true b e = refl
-or-last false b e = e
-
 module _ (file : List ℕ) where
   pub open-short : length file < trailerLen → openingBy (refused Trailer) ≡ openingBy (archiveOf file)
   unfolding archiveOf
@@ -483,7 +480,8 @@ module _ (file : List ℕ) where
       form-is : formOf (formIn file) ≡ some f
       form-is = rw (← ev, form, ek) (form-of f)
 
-      outgrown : (b : Bool) → outgrows file f ≡ b → openingBy (archiveOf file) ≡ openingBy (pick b (refused Trailer) (checked file f (messagesTo file (indexAt file))))
+      outgrown : (b : Bool) → outgrows file f ≡ b
+          → openingBy (archiveOf file) ≡ openingBy (pick b (refused Trailer) (checked file f (messagesTo file (indexAt file))))
       outgrown b e = ap openingBy (as-form (some f) form-is) ∙ rw e
 
       pub open-large : m < length file → openingBy (refused Trailer) ≡ openingBy (archiveOf file)
@@ -491,12 +489,15 @@ module _ (file : List ℕ) where
       open-large h = sym (outgrown true (rw (← em, lt-ltb m (length file) h)))
 
       module _ (small : length file ≤ m) (at n e : ℕ) (ea : at ≡ indexAt file) (en : n ≡ entriesIn file) (ee : e ≡ entrySize f) where
+        under-limit : ltb (limit f) (length file) ≡ false
+        under-limit = rw (← em) (le-ltb m (length file) small)
+
         pub open-past : trailerAt file < at + e * n → openingBy (refused Trailer) ≡ openingBy (archiveOf file)
         unfolding outgrows
         open-past h =
             let p : ltb (trailerAt file) (indexAt file + entrySize f * entriesIn file) ≡ true
             = rw (← ea, ← en, ← ee) (lt-ltb (trailerAt file) (at + e * n) h) in
-            sym (outgrown true (or-last (ltb (limit f) (length file)) _ p))
+            sym (outgrown true (rw (under-limit, p)))
 
         module _ (ends : at + e * n ≤ trailerAt file) where
           pub open-trailed : Trailed file f at n (trailerAt file)
@@ -510,91 +511,9 @@ module _ (file : List ℕ) where
                 most = rw em at small;
               }
 
-          pub open-checked : openingBy (checked file f (messagesTo file at)) ≡ openingBy (archiveOf file)
+          pub open-checked : (r : Opening) → r ≡ openingBy (checked file f (messagesTo file at)) → r ≡ openingBy (archiveOf file)
           unfolding outgrows
-          open-checked =
+          open-checked r er =
               let p : ltb (trailerAt file) (indexAt file + entrySize f * entriesIn file) ≡ false
               = rw (← ea, ← en, ← ee) (le-ltb (trailerAt file) (at + e * n) ends) in
-              let l : ltb (limit f) (length file) ≡ false = rw (← em) (le-ltb m (length file) small) in
-              rw ea (sym (outgrown false (or-none _ _ l p)))
-
--- ---- what an opened file holds
-
-refused-holds : (v : Verdict) (f : Form) (ms : List (List ℕ)) → refused v ≡ holds f ms → ⊥
-refused-holds v f ms e = let z : _≡_ {A = ℕ} 0 1 = cc in omega arith
-
--- the file of messages, under its form's limit
-pub record Holding (file : List ℕ) (f : Form) (ms : List (List ℕ)) : Type 0 where
-  pub file-is : file ≡ fileOf f ms
-  pub messages : AreMessages ms
-  pub most : length file ≤ limit f
-
-pub open-holds : (file : List ℕ) → AreBytes file → (f : Form) (ms : List (List ℕ)) → archiveOf file ≡ holds f ms → Holding file f ms
-unfolding archiveOf outgrows
-open-holds file are f ms e = short (ltb (length file) trailerLen) e
-  where
-    all : (ns : List (List ℕ)) (b : Bool) → messagesTo file (indexAt file) ≡ some ns → indexAt file ≤ length file → length file ≤ limit f
-        → same file (fileOf f ns) ≡ b → pick b (holds f ns) (refused Records) ≡ holds f ms → Holding file f ms
-    all ns false en h l es q = absurd (refused-holds Records f ms q)
-    all ns true en h l es q =
-        let n : ns ≡ ms = cc in
-        record { file-is = rw (← n) (same-is file (fileOf f ns) es); messages = rw (← n) (cut-records file (indexAt file) ns are en .messages); most = l }
-
-    whole : (r : Option (List (List ℕ))) → messagesTo file (indexAt file) ≡ r → indexAt file ≤ length file → length file ≤ limit f
-        → checked file f r ≡ holds f ms → Holding file f ms
-    whole none er h l q = absurd (refused-holds Records f ms q)
-    whole (some ns) er h l q = all ns (same file (fileOf f ns)) er h l refl q
-
-    grown : (a b : Bool) → ltb (limit f) (length file) ≡ a → ltb (trailerAt file) (indexAt file + entrySize f * entriesIn file) ≡ b
-        → pick (or a b) (refused Trailer) (checked file f (messagesTo file (indexAt file))) ≡ holds f ms → Holding file f ms
-    grown true b ea eb q = absurd (refused-holds Trailer f ms q)
-    grown false true ea eb q = absurd (refused-holds Trailer f ms q)
-    grown false false ea eb q =
-        whole (messagesTo file (indexAt file)) refl (omega (arith, ltb-false)) (omega (arith, ltb-false)) q
-
-    formed : (o : Option Form) → openAs file o ≡ holds f ms → Holding file f ms
-    formed none q = absurd (refused-holds Trailer f ms q)
-    formed (some g) q =
-        let n : g ≡ f = one-form g f in
-        grown (ltb (limit f) (length file)) (ltb (trailerAt file) (indexAt file + entrySize f * entriesIn file)) refl refl (rw n at q)
-
-    short : (b : Bool) → pick b (refused Trailer) (openAs file (formOf (formIn file))) ≡ holds f ms → Holding file f ms
-    short true q = absurd (refused-holds Trailer f ms q)
-    short false q = formed (formOf (formIn file)) q
-
--- a refusal has a number above 0
-pub refused-why : (file : List ℕ) (v : Verdict) → archiveOf file ≡ refused v → verdictNumber v ≡ 0 → ⊥
-unfolding archiveOf
-refused-why file v e = short (ltb (length file) trailerLen) e
-  where
-    holds-not : (f : Form) (ms : List (List ℕ)) → holds f ms ≡ refused v → ⊥
-    holds-not f ms q = refused-holds v f ms (sym q)
-
-    by : (u : Verdict) → (verdictNumber u ≡ 0 → ⊥) → refused u ≡ refused v → verdictNumber v ≡ 0 → ⊥
-    by u h q z = let n : u ≡ v = cc in h (rw n z)
-
-    not-trailer : refused Trailer ≡ refused v → verdictNumber v ≡ 0 → ⊥
-    not-trailer = by Trailer (λ z. omega arith)
-
-    not-records : refused Records ≡ refused v → verdictNumber v ≡ 0 → ⊥
-    not-records = by Records (λ z. omega arith)
-
-    all : (f : Form) (ms : List (List ℕ)) (b : Bool) → pick b (holds f ms) (refused Records) ≡ refused v → verdictNumber v ≡ 0 → ⊥
-    all f ms true q = absurd (holds-not f ms q)
-    all f ms false q = not-records q
-
-    whole : (f : Form) (r : Option (List (List ℕ))) → checked file f r ≡ refused v → verdictNumber v ≡ 0 → ⊥
-    whole f none q = not-records q
-    whole f (some ms) q = all f ms (same file (fileOf f ms)) q
-
-    grown : (f : Form) (b : Bool) → pick b (refused Trailer) (checked file f (messagesTo file (indexAt file))) ≡ refused v → verdictNumber v ≡ 0 → ⊥
-    grown f true q = not-trailer q
-    grown f false q = whole f (messagesTo file (indexAt file)) q
-
-    formed : (o : Option Form) → openAs file o ≡ refused v → verdictNumber v ≡ 0 → ⊥
-    formed none q = not-trailer q
-    formed (some f) q = grown f (outgrows file f) q
-
-    short : (b : Bool) → pick b (refused Trailer) (openAs file (formOf (formIn file))) ≡ refused v → verdictNumber v ≡ 0 → ⊥
-    short true q = not-trailer q
-    short false q = formed (formOf (formIn file)) q
+              er ∙ rw ea (sym (outgrown false (rw (under-limit, p))))

@@ -22,7 +22,7 @@ add-at c =
     let w = c .before in
     let k = w .before in
     let a = k .before .args in
-    omega (arith, w .offset-width .ensures, width-is (a .f), limit-is (a .f), seek-small _ (a .f) _ (k .before .pre) (a .session) (λ i. k .shared-slice-known .given i .fits))
+    omega (arith, w .offset-width .ensures, width-is (a .f), limit-is (a .f), seek-small _ (a .f) _ (k .before .pre))
 
 loop-holds : tie.Need-loop-holds Inv-loop μ-loop
 loop-holds c =
@@ -33,7 +33,11 @@ two-at-requires : tie.Need-two-at-requires Inv-loop μ-loop
 two-at-requires c κs =
     let l = c .before .before in
     let k = l .before .before .before in
-    omega (arith, entry-is (k .before .args .f), seek-in _ _ _ (k .before .pre) _ (λ i. k .shared-slice-known .given i .fits) _ _ (l .loop .inv) (c .if1 .taken))
+    omega (
+      arith,
+      entry-is (k .before .args .f),
+      seek-in _ _ _ (k .before .pre) _ (λ i. k .shared-slice-known .given i .fits) _ _ (l .loop .inv) (c .if1 .taken),
+    )
 
 add-result : tie.Need-add-result Inv-loop μ-loop
 add-result c = search needs
@@ -43,7 +47,8 @@ returns c =
     let v = c .before in
     let l = v .before .before .before in
     let k = l .before .before .before in
-    seek-hit _ _ _ (k .before .pre) _ (λ i. k .shared-slice-known .given i .fits) _ _ (l .loop .inv) (v .before .if1 .taken) _ (v .two-at .ensures) (c .if2 .taken)
+    seek-hit _ _ _ (k .before .pre) _ (λ i. k .shared-slice-known .given i .fits) _ _ (l .loop .inv) (v .before .if1 .taken)
+    _ (v .two-at .ensures) (c .if2 .taken)
 
 entry-size-requires : tie.Need-entry-size-requires Inv-loop μ-loop
 entry-size-requires c κs = search needs
@@ -53,7 +58,11 @@ add-at-2 c =
     let v = c .before .before in
     let l = v .before .before .before in
     let k = l .before .before .before in
-    omega (arith, c .entry-size .ensures, seek-in _ _ _ (k .before .pre) _ (λ i. k .shared-slice-known .given i .fits) _ _ (l .loop .inv) (v .before .if1 .taken))
+    omega (
+      arith,
+      c .entry-size .ensures,
+      seek-in _ _ _ (k .before .pre) _ (λ i. k .shared-slice-known .given i .fits) _ _ (l .loop .inv) (v .before .if1 .taken),
+    )
 
 add-i : tie.Need-add-i Inv-loop μ-loop
 add-i c = search needs
@@ -66,8 +75,8 @@ loop-again c =
     let v = c .before .before in
     let l = v .before .before .before in
     let k = l .before .before .before in
-    seek-on _ _ _ (k .before .pre) _ (λ i. k .shared-slice-known .given i .fits) _ _ (l .loop .inv) (v .before .if1 .taken) _ (v .two-at .ensures)
-    (c .before .if2 .left) _ (c .entry-size .ensures)
+    seek-on _ _ _ (k .before .pre) _ (λ i. k .shared-slice-known .given i .fits) _ _ (l .loop .inv) (v .before .if1 .taken)
+    _ (v .two-at .ensures) (c .before .if2 .left) _ (c .entry-size .ensures)
 
 returns-2 : tie.Need-returns-2 Inv-loop μ-loop
 returns-2 c =

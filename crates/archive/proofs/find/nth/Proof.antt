@@ -19,13 +19,21 @@ mul-entry : tie.Need-mul-entry
 mul-entry c =
     let k = c .before in
     let p = k .before .pre in
-    omega (arith, nth-entry _ (k .before .args .f) _ _ (p .0) (λ i. k .shared-slice-known .given i .fits) _ (p .1) (p .2) _ _ (c .entry-size .ensures) refl)
+    omega (
+      arith,
+      nth-entry _ (k .before .args .f) _ _ (p .0) (λ i. k .shared-slice-known .given i .fits) _ (p .1) (p .2)
+          _ _ (c .entry-size .ensures) refl,
+    )
 
 add-entry : tie.Need-add-entry
 add-entry c =
     let k = c .before in
     let p = k .before .pre in
-    omega (arith, nth-entry _ (k .before .args .f) _ _ (p .0) (λ i. k .shared-slice-known .given i .fits) _ (p .1) (p .2) _ _ (c .entry-size .ensures) refl)
+    omega (
+      arith,
+      nth-entry _ (k .before .args .f) _ _ (p .0) (λ i. k .shared-slice-known .given i .fits) _ (p .1) (p .2)
+          _ _ (c .entry-size .ensures) refl,
+    )
 
 offset-width-requires : tie.Need-offset-width-requires
 offset-width-requires c κs = search needs
@@ -35,7 +43,8 @@ read-number-requires c κs =
     let e = c .before in
     let k = e .before in
     let p = k .before .pre in (
-      nth-entry _ (k .before .args .f) _ _ (p .0) (λ i. k .shared-slice-known .given i .fits) _ (p .1) (p .2) _ _ (e .entry-size .ensures) (c .offset-width .ensures),
+      nth-entry _ (k .before .args .f) _ _ (p .0) (λ i. k .shared-slice-known .given i .fits) _ (p .1) (p .2)
+          _ _ (e .entry-size .ensures) (c .offset-width .ensures),
       omega (arith, c .offset-width .ensures, width-is (k .before .args .f)),
     )
 
@@ -46,7 +55,11 @@ add-t10 c =
     let e = w .before in
     let k = e .before in
     let p = k .before .pre in
-    omega (arith, nth-there _ (k .before .args .f) _ _ (p .0) (λ i. k .shared-slice-known .given i .fits) _ (p .1) (p .2) _ _ (e .entry-size .ensures) (w .offset-width .ensures) _ (c .read-number .ensures .0))
+    omega (
+      arith,
+      nth-there _ (k .before .args .f) _ _ (p .0) (λ i. k .shared-slice-known .given i .fits) _ (p .1) (p .2)
+          _ _ (e .entry-size .ensures) (w .offset-width .ensures) _ (c .read-number .ensures .0),
+    )
 
 two-at-requires : tie.Need-two-at-requires
 unfolding fieldAt
@@ -55,7 +68,8 @@ two-at-requires c κs =
     let e = w .before in
     let k = e .before in
     let p = k .before .pre in
-    nth-there _ (k .before .args .f) _ _ (p .0) (λ i. k .shared-slice-known .given i .fits) _ (p .1) (p .2) _ _ (e .entry-size .ensures) (w .offset-width .ensures) _ (c .read-number .ensures .0)
+    nth-there _ (k .before .args .f) _ _ (p .0) (λ i. k .shared-slice-known .given i .fits) _ (p .1) (p .2)
+    _ _ (e .entry-size .ensures) (w .offset-width .ensures) _ (c .read-number .ensures .0)
 
 cast-t8 : tie.Need-cast-t8
 cast-t8 c = search needs
@@ -68,8 +82,8 @@ returns c =
     let e = w .before in
     let k = e .before in
     let p = k .before .pre in
-    nth-is _ (k .before .args .f) _ _ (p .0) (λ i. k .shared-slice-known .given i .fits) _ (p .1) (p .2) _ _ (e .entry-size .ensures) (w .offset-width .ensures) _ (r .read-number .ensures .0)
-    _ (c .two-at .ensures)
+    nth-is _ (k .before .args .f) _ _ (p .0) (λ i. k .shared-slice-known .given i .fits) _ (p .1) (p .2)
+    _ _ (e .entry-size .ensures) (w .offset-width .ensures) _ (r .read-number .ensures .0) _ (c .two-at .ensures)
 
 pub nth-spec : {M : Type 1} → statement M
 nth-spec =

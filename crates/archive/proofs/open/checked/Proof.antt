@@ -21,7 +21,8 @@ returns c =
     let w = c .before .before .before in
     let s = w .before in
     c .refuse .ensures
-    ∙ check-torn _ (λ i. s .shared-slice-known .given i .fits) _ _ _ _ (s .before .pre) _ (w .walk .ensures) (not-true _ (c .before .if1 .taken))
+    ∙ check-torn _ (λ i. s .shared-slice-known .given i .fits) _ _ _ _ (s .before .pre) _ (w .walk .ensures)
+    (not-true _ (c .before .if1 .taken))
 
 refuse-requires-2 : tie.Need-refuse-requires-2
 refuse-requires-2 c κs = search needs
@@ -32,7 +33,8 @@ returns-2 c =
     let w = i .before .before in
     let s = w .before in
     c .refuse2 .ensures
-    ∙ check-count _ (λ i. s .shared-slice-known .given i .fits) _ _ _ _ (s .before .pre) _ (w .walk .ensures) (not-false _ (i .if1 .left)) (c .before .if2 .taken)
+    ∙ check-count _ (λ i. s .shared-slice-known .given i .fits) _ _ _ _ (s .before .pre) _ (w .walk .ensures)
+    (not-false _ (i .if1 .left)) (c .before .if2 .taken)
 
 entry-size-requires : tie.Need-entry-size-requires
 entry-size-requires c κs = search needs
@@ -60,8 +62,8 @@ returns-3 c =
     let w = i .before .before in
     let s = w .before in
     c .refuse3 .ensures
-    ∙ check-end _ (λ i. s .shared-slice-known .given i .fits) _ _ _ _ (s .before .pre) _ (w .walk .ensures) (not-false _ (i .if1 .left)) (j .if2 .left)
-    _ (e .entry-size .ensures) (c .before .if3 .taken)
+    ∙ check-end _ (λ i. s .shared-slice-known .given i .fits) _ _ _ _ (s .before .pre) _ (w .walk .ensures)
+    (not-false _ (i .if1 .left)) (j .if2 .left) _ (e .entry-size .ensures) (c .before .if3 .taken)
 
 index-agrees-requires : tie.Need-index-agrees-requires
 index-agrees-requires c κs =
@@ -70,8 +72,8 @@ index-agrees-requires c κs =
     let i = j .before .before in
     let w = i .before .before in
     let s = w .before in
-    check-told _ (λ i. s .shared-slice-known .given i .fits) _ _ _ _ (s .before .pre) _ (w .walk .ensures) (not-false _ (i .if1 .left)) (j .if2 .left)
-    _ (e .entry-size .ensures) (c .if3 .left)
+    check-told _ (λ i. s .shared-slice-known .given i .fits) _ _ _ _ (s .before .pre) _ (w .walk .ensures)
+    (not-false _ (i .if1 .left)) (j .if2 .left) _ (e .entry-size .ensures) (c .if3 .left)
 
 refuse-requires-4 : tie.Need-refuse-requires-4
 refuse-requires-4 c κs = search needs
@@ -85,8 +87,9 @@ returns-4 c =
     let w = i .before .before in
     let s = w .before in
     c .refuse4 .ensures
-    ∙ check-index _ (λ i. s .shared-slice-known .given i .fits) _ _ _ _ (s .before .pre) _ (w .walk .ensures) (not-false _ (i .if1 .left)) (j .if2 .left)
-    _ (e .entry-size .ensures) (k .if3 .left) _ (c .before .before .index-agrees .ensures) (not-true _ (c .before .if4 .taken))
+    ∙ check-index _ (λ i. s .shared-slice-known .given i .fits) _ _ _ _ (s .before .pre) _ (w .walk .ensures)
+    (not-false _ (i .if1 .left)) (j .if2 .left) _ (e .entry-size .ensures) (k .if3 .left)
+    _ (c .before .before .index-agrees .ensures) (not-true _ (c .before .if4 .taken))
 
 returns-5 : tie.Need-returns-5
 returns-5 c =
@@ -96,8 +99,9 @@ returns-5 c =
     let i = j .before .before in
     let w = i .before .before in
     let s = w .before in
-    check-all _ (λ i. s .shared-slice-known .given i .fits) _ _ _ _ (s .before .pre) _ (w .walk .ensures) (not-false _ (i .if1 .left)) (j .if2 .left)
-    _ (e .entry-size .ensures) (k .if3 .left) _ (c .before .index-agrees .ensures) (not-false _ (c .if4 .left))
+    check-all _ (λ i. s .shared-slice-known .given i .fits) _ _ _ _ (s .before .pre) _ (w .walk .ensures)
+    (not-false _ (i .if1 .left)) (j .if2 .left) _ (e .entry-size .ensures) (k .if3 .left)
+    _ (c .before .index-agrees .ensures) (not-false _ (c .if4 .left))
 
 pub checked-spec : {M : Type 1} → statement M
 checked-spec =

@@ -53,7 +53,8 @@ returns-3 c =
     let f = i .before in
     let v = f .before in
     c .refuse3 .ensures
-    ∙ open-large _ (v .before .if1 .left) One _ _ (v .two-at .ensures) (f .number .ensures) (i .if2 .left) _ (l .limit .ensures) (c .before .if3 .taken)
+    ∙ open-large _ (v .before .if1 .left) One _ _ (v .two-at .ensures) (f .number .ensures)
+    (i .if2 .left) _ (l .limit .ensures) (c .before .if3 .taken)
 
 read-number-requires : tie.Need-read-number-requires
 read-number-requires c κs = search needs
@@ -94,8 +95,9 @@ returns-4 c =
     let f = i .before in
     let v = f .before in
     c .refuse4 .ensures
-    ∙ open-past _ (v .before .if1 .left) One _ _ (v .two-at .ensures) (f .number .ensures) (i .if2 .left) _ (l .limit .ensures) (j .if3 .left)
-    _ _ _ (a .read-number .ensures .0) (n .two-at2 .ensures) (c .before .before .entry-size .ensures) (c .before .if4 .taken)
+    ∙ open-past _ (v .before .if1 .left) One _ _ (v .two-at .ensures) (f .number .ensures)
+    (i .if2 .left) _ (l .limit .ensures) (j .if3 .left) _ _ _ (a .read-number .ensures .0)
+    (n .two-at2 .ensures) (c .before .before .entry-size .ensures) (c .before .if4 .taken)
 
 checked-requires : tie.Need-checked-requires
 unfolding fieldAt
@@ -107,8 +109,9 @@ checked-requires c κs =
     let i = l .before in
     let f = i .before in
     let v = f .before in
-    open-trailed _ (v .before .if1 .left) One _ _ (v .two-at .ensures) (f .number .ensures) (i .if2 .left) _ (l .limit .ensures) (j .if3 .left)
-    _ _ _ (a .read-number .ensures .0) (n .two-at2 .ensures) (c .before .entry-size .ensures) (c .if4 .left)
+    open-trailed _ (v .before .if1 .left) One _ _ (v .two-at .ensures) (f .number .ensures)
+    (i .if2 .left) _ (l .limit .ensures) (j .if3 .left) _ _ _ (a .read-number .ensures .0)
+    (n .two-at2 .ensures) (c .before .entry-size .ensures) (c .if4 .left)
 
 returns-5 : tie.Need-returns-5
 unfolding fieldAt
@@ -120,9 +123,9 @@ returns-5 c =
     let i = l .before in
     let f = i .before in
     let v = f .before in
-    c .checked .ensures
-    ∙ open-checked _ (v .before .if1 .left) One _ _ (v .two-at .ensures) (f .number .ensures) (i .if2 .left) _ (l .limit .ensures) (j .if3 .left)
-    _ _ _ (a .read-number .ensures .0) (n .two-at2 .ensures) (c .before .before .entry-size .ensures) (c .before .if4 .left)
+    open-checked _ (v .before .if1 .left) One _ _ (v .two-at .ensures) (f .number .ensures)
+    (i .if2 .left) _ (l .limit .ensures) (j .if3 .left) _ _ _ (a .read-number .ensures .0)
+    (n .two-at2 .ensures) (c .before .before .entry-size .ensures) (c .before .if4 .left) _ (c .checked .ensures)
 
 pub open-spec : {M : Type 1} → statement M
 open-spec =
