@@ -14,8 +14,8 @@ use libc::STDOUT_FILENO as OUT;
 use wire::id::SessionId;
 use wire::number;
 
-// More bytes than a case's file or message has.
-const MOST: usize = 131072;
+// More cases than an input has.
+const CASES_MOST: usize = 1000000000;
 
 // What is done in a case.
 const ADD: u8 = 1;
@@ -34,7 +34,7 @@ struct Answer {
     third: u64,
 }
 
-// As many zeros as a file may have bytes.
+// More zeros than a case's file or message has bytes.
 fn room() -> [u8; 131072]
     ensures { λ r. ⌜ 131072 ≡ length r ⌝ }
 {
@@ -49,16 +49,11 @@ fn filled(buf: &mut [u8]) -> bool
     io::read_full(IN, buf) == n
 }
 
-// A length of four bytes, MOST at most.
-fn length_at(b: &[u8], at: usize) -> usize
+// A length of four bytes.
+fn length_at(b: &[u8], at: usize) -> isize
     requires { ⌜ at + 4 ≤ length (now b) ⌝ }
-    ensures { λ r. ⌜ r ≤ 131072 ⌝ }
 {
-    let n = number::read_number(b, at, 4) as usize;
-    if MOST < n {
-        return MOST;
-    }
-    n
+    number::read_number(b, at, 4) as isize
 }
 
 // What adding and closing answer.
@@ -124,6 +119,21 @@ fn show(a: Answer, file: &[u8]) -> bool {
     io::write_all(OUT, file)
 }
 
+// Does what a case asks of a file's first bytes, and shows the answer and these bytes.
+fn run_on(op: u8, file: &mut [u8], size: isize, n: u64, message: &[u8], len: isize) -> bool {
+    let most = io::count(size, file);
+    let end = io::count(len, message);
+    let a = answered(op, &mut file[..most], n, &message[..end]);
+    let shown = io::count(size, file);
+    show(a, &file[..shown])
+}
+
+// Fills a buffer's first bytes from standard input.
+fn filled_to(buf: &mut [u8], size: isize) -> bool {
+    let most = io::count(size, buf);
+    filled(&mut buf[..most])
+}
+
 // Runs the case that stands next; false where there is none, or the output is gone.
 fn run_case() -> bool {
     let mut head = [0u8; 5];
@@ -132,7 +142,7 @@ fn run_case() -> bool {
     }
     let mut file = room();
     let size = length_at(&head, 1);
-    if !filled(&mut file[..size]) {
+    if !filled_to(&mut file, size) {
         return false;
     }
     let mut asked = [0u8; 12];
@@ -141,14 +151,20 @@ fn run_case() -> bool {
     }
     let mut message = room();
     let len = length_at(&asked, 8);
-    if !filled(&mut message[..len]) {
+    if !filled_to(&mut message, len) {
         return false;
     }
     let n = number::read_number(&asked, 0, 8);
-    let a = answered(head[0], &mut file[..size], n, &message[..len]);
-    show(a, &file[..size])
+    run_on(head[0], &mut file, size, n, &message, len)
 }
 
+// Runs case after case; more than an input can have are none.
 fn main() {
-    while run_case() {}
+    let mut left = CASES_MOST;
+    while 0 < left {
+        if !run_case() {
+            return;
+        }
+        left -= 1;
+    }
 }
