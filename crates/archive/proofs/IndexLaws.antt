@@ -9,7 +9,7 @@ use native.Mathlib.Omega.{arith}
 use lib.ListN.{length, take, set}
 use lib.Seq.{sets, slice, slice-empty, take-set-le, length-sets}
 use Rattle.wire.specs.Number.{big, numberBytes}
-use Rattle.wire.specs.Header.{sessionOf}
+use Rattle.wire.specs.Header.{fieldAt, sessionOf}
 use Rattle.wire.proofs.NumberLaws.{length-numberBytes}
 use Rattle.wire.proofs.StoreLaws.{two-stores}
 use Rattle.archive.specs.declared.form.Form.{Form}
@@ -17,7 +17,7 @@ use Rattle.archive.specs.Form.{offsetWidth, entrySize, entryBytes, index
 use Rattle.archive.specs.Records.{messageIn, recordFits, messagesTo}
 use Rattle.archive.specs.Walking.{cutSize, isWhole, listed, sessionIn}
 use Rattle.archive.proofs.RecordLaws.{cut-nothing, length-entry}
-use Rattle.archive.proofs.WalkLaws.{cut-sized, size-of, session-there}
+use Rattle.archive.proofs.WalkLaws.{cut-sized, size-of, size-there, session-there}
 use Rattle.archive.proofs.LeftLaws.{messagesFrom, next-fits, next-whole, next-listed, whole-within, from-start}
 
 -- stores at or behind a place leave what is before it
@@ -66,7 +66,7 @@ index-end {old} {f} {size} {file} {at} {to} i h =
 
 -- a turn
 module _ {old : List ℕ} {f : Form} {size : ℕ} {file : List ℕ} {at to : ℕ} (i : Indexing old f size file at to) (under : at < size)
-    {k : ℕ} (ke : k ≡ cutSize (slice at size file)) where
+    {k : ℕ} (ke : k ≡ 2 + fieldAt at 2 file) where
   abbrev here : List ℕ
   here = slice at size old
 
@@ -76,8 +76,15 @@ module _ {old : List ℕ} {f : Form} {size : ℕ} {file : List ℕ} {at to : ℕ
   fits-here : recordFits here ≡ true
   fits-here = next-fits old at size under (i .size-within) (i .whole)
 
+  -- a record stands there in the file as it is now, too
+  within-now : size ≤ length file
+  within-now = omega (arith, i .same-length, i .size-within)
+
+  fits-now : recordFits (slice at size file) ≡ true
+  fits-now = rw (i .kept) fits-here
+
   size-here : k ≡ cutSize here
-  size-here = rw (i .kept) at ke
+  size-here = ke ∙ rw (i .kept) at (sym (size-there file at size under within-now fits-now))
 
   pub turn-sized : (18 ≤ k) × (at + k ≤ size)
   turn-sized = rw size-here (cut-sized old at size under (i .size-within) fits-here)
@@ -93,8 +100,7 @@ module _ {old : List ℕ} {f : Form} {size : ℕ} {file : List ℕ} {at to : ℕ
   turn-room = omega (arith, turn-left, i .same-length)
 
   session-here : sessionIn file at ≡ sessionOf (messageIn here)
-  session-here =
-      rw (i .kept) at (sym (session-there file at size under (omega (arith, i .same-length, i .size-within)) (rw (i .kept) fits-here)))
+  session-here = rw (i .kept) at (sym (session-there file at size under within-now fits-now))
 
   module _ {w session e : ℕ} {l1 l2 : List ℕ} (we : w ≡ offsetWidth f) (se : session ≡ sessionIn file at) (ee : e ≡ entrySize f)
       (e1 : l1 ≡ sets file to (numberBytes big w at)) (e2 : l2 ≡ sets l1 (to + w) (numberBytes big 2 session)) where

@@ -64,7 +64,7 @@ use Rattle.archive.proofs.LeftLaws.{
   told-size,
   cut-records,
 }
-use Rattle.archive.proofs.WalkLaws.{cut-end, cut-sized, size-of, session-there}
+use Rattle.archive.proofs.WalkLaws.{cut-end, cut-sized, size-of, size-there, session-there}
 
 -- ---- the same bytes
 
@@ -207,8 +207,11 @@ module _ (file : List ℕ) (f : Form) (size end : ℕ) (told : Told file f size 
       record-there : recordFits (slice at size file) ≡ true
       record-there = next-fits file at size more within (g .whole)
 
-      pub record-sized : (18 ≤ cutSize (slice at size file)) × (at + cutSize (slice at size file) ≤ size)
-      record-sized = cut-sized file at size more within record-there
+      record-size : cutSize (slice at size file) ≡ 2 + fieldAt at 2 file
+      record-size = size-there file at size more within record-there
+
+      pub record-sized : (18 ≤ 2 + fieldAt at 2 file) × (at + (2 + fieldAt at 2 file) ≤ size)
+      record-sized = rw record-size at (cut-sized file at size more within record-there)
 
       abbrev m : List ℕ
       m = messageIn (slice at size file)
@@ -243,12 +246,12 @@ module _ (file : List ℕ) (f : Form) (size end : ℕ) (told : Told file f size 
             → false ≡ same (slice size end file) (indexBytes f 0 (listed (messagesTo file size)))
         going-no e = sym (g .left ∙ entry-left ∙ rw e)
 
-        pub going-on : entryAgrees file f to at ≡ true → (k n : ℕ) → k ≡ cutSize (slice at size file) → n ≡ entrySize f
+        pub going-on : entryAgrees file f to at ≡ true → (k n : ℕ) → k ≡ 2 + fieldAt at 2 file → n ≡ entrySize f
             → Going file f size end (at + k) (to + n)
         going-on e k n ek en =
-            rw (ek, en)
+            rw (ek, ← record-size, en)
             (record {
-              under = record-sized .1;
+              under = cut-sized file at size more within record-there .1;
               whole = next-whole file at size more within (g .whole);
               ends = then-ends;
               left = g .left ∙ entry-left ∙ rw e;

@@ -122,6 +122,10 @@ module _ (file : List ℕ) (at size : ℕ) (under : at < size) (inside : size �
     cut-sized =
         (omega (arith, size-of, message-least (messageIn b) message-there), omega (arith, size-is, whole, long))
 
+    -- by its length alone
+    pub size-there : cutSize b ≡ 2 + fieldAt at 2 file
+    size-there = size-is ∙ ap (2 +_) (length-there file at size inside (omega (arith, cut-sized)))
+
     pub cut-more : (turns : ℕ) → cutAll (suc turns) b ≡ before (messageIn b) (cutAll turns (slice (at + cutSize b) size file))
     cut-more turns =
         rw (cut-step turns b (omega (arith, long)), fits, size-is, drop-drop (2 + lengthIn b) at (take size file))

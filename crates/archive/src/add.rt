@@ -98,7 +98,7 @@ fn put_index(file: &mut [u8], f: Form, size: usize)
     let mut at: usize = 0;
     let mut to: usize = size;
     while at < size {
-        let k = records::record_at(file, at, size);
+        let k = records::size_at(file, at);
         let session = header::two_at(file, at + form::LENGTH_LEN + header::SESSION_AT);
         let w = f.offset_width();
         number::write_number(file, to, w, at as u64);

@@ -59,7 +59,7 @@ fn index_agrees(file: &[u8], f: Form, size: usize, end: usize) -> bool
             return false;
         }
         to += f.entry_size();
-        at += records::record_at(file, at, size);
+        at += records::size_at(file, at);
     }
     true
 }

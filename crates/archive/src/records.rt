@@ -1,9 +1,10 @@
-// Records of messages, and the one walk over them.
+// Records of messages, and the one walk that judges them.
 
 ghost use mathlib.Core.Path.{_≡_};
-ghost use Prim.Native.Nat.{_≤_};
+ghost use Prim.Native.Nat.{_+_, _≤_};
 ghost use lib.ListN.{length};
 ghost use lib.Seq.{slice};
+ghost use Rattle.wire.specs.Header.{fieldAt};
 ghost use Rattle.archive.specs.Form.{messageFits};
 ghost use Rattle.archive.specs.Records.{messagesTo};
 ghost use Rattle.archive.specs.Walking.{cutSize, walkedFrom};
@@ -34,8 +35,8 @@ pub fn is_message(m: &[u8]) -> bool
     number::read_number(m, header::LENGTH_AT, 4) == (len - 8) as u64
 }
 
-// The size of the record that stands at `at`, before `end`; 0 where none of a message does. For this crate's own walks.
-pub fn record_at(file: &[u8], at: usize, end: usize) -> usize
+// The size of the record that stands at `at`, before `end`; 0 where none of a message does.
+fn record_at(file: &[u8], at: usize, end: usize) -> usize
     requires { ⌜ (at ≤ end) × (end ≤ length (now file)) ⌝ }
     ensures { λ r. ⌜ r ≡ cutSize (slice at end (now (file .entry))) ⌝ }
 {
@@ -51,6 +52,14 @@ pub fn record_at(file: &[u8], at: usize, end: usize) -> usize
         return 0;
     }
     form::LENGTH_LEN + n
+}
+
+// The size of the record that stands at `at`, by its length alone. For this crate's own walks over records that were found whole.
+pub fn size_at(file: &[u8], at: usize) -> usize
+    requires { ⌜ at + 2 ≤ length (now file) ⌝ }
+    ensures { λ r. ⌜ r ≡ 2 + fieldAt at 2 (now (file .entry)) ⌝ }
+{
+    form::LENGTH_LEN + header::two_at(file, at) as usize
 }
 
 // Walks over the records that the first `size` bytes of a file should be.

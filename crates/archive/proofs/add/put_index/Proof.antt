@@ -1,7 +1,7 @@
 -- `archive::add::put_index` meets its contract. The loop's invariant: storing what is left of the index at `to` gives the whole of it, and
 -- the records are as they were. The measure is what is left of the records.
 -- Assumes nothing.
-use mathlib.Core.Path.{ap}
+use mathlib.Core.Path.{refl, ap}
 use Prim.Native.Nat.{_-_}
 use native.Mathlib.Omega.{arith}
 use borrow.Author.Needs.{needs}
@@ -21,8 +21,10 @@ abbrev μ-loop : tie.MeasureT-loop
 loop-holds : tie.Need-loop-holds Inv-loop μ-loop
 loop-holds c = let s = c .before in index-start (s .args .file .now) (s .args .f) (s .args .size) (s .pre .0) (s .pre .1)
 
-record-at-requires : tie.Need-record-at-requires Inv-loop μ-loop
-record-at-requires c κs = search needs
+size-at-requires : tie.Need-size-at-requires Inv-loop μ-loop
+size-at-requires c κs =
+    let t = c .before in
+    omega (arith, turn-sized (t .before .loop .inv) (t .loop-test .taken) refl)
 
 add-two-at : tie.Need-add-two-at Inv-loop μ-loop
 add-two-at c = search needs
@@ -34,7 +36,7 @@ two-at-requires : tie.Need-two-at-requires Inv-loop μ-loop
 two-at-requires c κs =
     let r = c .before in
     let t = r .before .before in
-    omega (arith, turn-sized (t .before .loop .inv) (t .loop-test .taken) (r .record-at .ensures))
+    omega (arith, turn-sized (t .before .loop .inv) (t .loop-test .taken) (r .size-at .ensures))
 
 offset-width-requires : tie.Need-offset-width-requires Inv-loop μ-loop
 offset-width-requires c κs = search needs
@@ -43,7 +45,7 @@ write-number-requires : tie.Need-write-number-requires Inv-loop μ-loop
 write-number-requires c κs =
     let r = c .before .before .before .before in
     let t = r .before .before in (
-      omega (arith, turn-room (t .before .loop .inv) (t .loop-test .taken) (r .record-at .ensures)),
+      omega (arith, turn-room (t .before .loop .inv) (t .loop-test .taken) (r .size-at .ensures)),
       omega (arith, width-is (t .before .before .before .args .f)),
     )
 
@@ -51,7 +53,7 @@ add-write-number : tie.Need-add-write-number Inv-loop μ-loop
 add-write-number c =
     let r = c .before .before .before .before .before .before .before .before in
     let t = r .before .before in
-    omega (arith, turn-room (t .before .loop .inv) (t .loop-test .taken) (r .record-at .ensures))
+    omega (arith, turn-room (t .before .loop .inv) (t .loop-test .taken) (r .size-at .ensures))
 
 cast-write-number : tie.Need-cast-write-number Inv-loop μ-loop
 cast-write-number c = search needs
@@ -61,7 +63,7 @@ write-number-requires-2 c κs =
     let r = c .before .before .before .before .before .before .before .before in
     let t = r .before .before in
     let same = simp length-sets at (ap length (c .before .before .before .write-number .ensures)) in
-    (omega (arith, same, turn-room (t .before .loop .inv) (t .loop-test .taken) (r .record-at .ensures)), omega arith)
+    (omega (arith, same, turn-room (t .before .loop .inv) (t .loop-test .taken) (r .size-at .ensures)), omega arith)
 
 entry-size-requires : tie.Need-entry-size-requires Inv-loop μ-loop
 entry-size-requires c κs = search needs
@@ -70,19 +72,19 @@ add-to : tie.Need-add-to Inv-loop μ-loop
 add-to c =
     let r = c .before .before .before .before .before .before .before .before .before .before .before .before in
     let t = r .before .before in
-    omega (arith, turn-room (t .before .loop .inv) (t .loop-test .taken) (r .record-at .ensures))
+    omega (arith, turn-room (t .before .loop .inv) (t .loop-test .taken) (r .size-at .ensures))
 
 add-at : tie.Need-add-at Inv-loop μ-loop
 add-at c =
     let r = c .before .before .before .before .before .before .before .before .before .before .before .before in
     let t = r .before .before in
-    omega (arith, turn-sized (t .before .loop .inv) (t .loop-test .taken) (r .record-at .ensures))
+    omega (arith, turn-sized (t .before .loop .inv) (t .loop-test .taken) (r .size-at .ensures))
 
 loop-less : tie.Need-loop-less Inv-loop μ-loop
 loop-less c =
     let r = c .before .before .before .before .before .before .before .before .before .before .before .before in
     let t = r .before .before in
-    omega (arith, turn-sized (t .before .loop .inv) (t .loop-test .taken) (r .record-at .ensures))
+    omega (arith, turn-sized (t .before .loop .inv) (t .loop-test .taken) (r .size-at .ensures))
 
 loop-again : tie.Need-loop-again Inv-loop μ-loop
 loop-again c =
@@ -91,7 +93,7 @@ loop-again c =
     let w = first .before .before in
     let r = w .before .before .before in
     let t = r .before .before in
-    index-turn (t .before .loop .inv) (t .loop-test .taken) (r .record-at .ensures)
+    index-turn (t .before .loop .inv) (t .loop-test .taken) (r .size-at .ensures)
     (w .offset-width .ensures)
     (w .before .two-at .ensures)
     (c .entry-size .ensures)
@@ -111,7 +113,7 @@ put-index-spec =
     Inv-loop
     μ-loop
     loop-holds
-    record-at-requires
+    size-at-requires
     add-two-at
     add-two-at-2
     two-at-requires

@@ -43,20 +43,23 @@ add-to c =
     let s = l .before .before .before in
     omega (arith, c .entry-size .ensures, entry-room _ _ _ _ (s .pre) _ _ (l .before .loop .inv) (l .loop-test .taken))
 
-record-at-requires : tie.Need-record-at-requires Inv-loop μ-loop
-record-at-requires c κs = search needs
+size-at-requires : tie.Need-size-at-requires Inv-loop μ-loop
+size-at-requires c κs =
+    let l = c .before .before .before in
+    let s = l .before .before .before in
+    omega (arith, record-sized _ _ _ _ (s .pre) _ _ (l .before .loop .inv) (l .loop-test .taken))
 
 add-at : tie.Need-add-at Inv-loop μ-loop
 add-at c =
     let l = c .before .before .before .before in
     let s = l .before .before .before in
-    omega (arith, c .record-at .ensures, record-sized _ _ _ _ (s .pre) _ _ (l .before .loop .inv) (l .loop-test .taken))
+    omega (arith, c .size-at .ensures, record-sized _ _ _ _ (s .pre) _ _ (l .before .loop .inv) (l .loop-test .taken))
 
 loop-less : tie.Need-loop-less Inv-loop μ-loop
 loop-less c =
     let l = c .before .before .before .before in
     let s = l .before .before .before in
-    omega (arith, c .record-at .ensures, record-sized _ _ _ _ (s .pre) _ _ (l .before .loop .inv) (l .loop-test .taken))
+    omega (arith, c .size-at .ensures, record-sized _ _ _ _ (s .pre) _ _ (l .before .loop .inv) (l .loop-test .taken))
 
 loop-again : tie.Need-loop-again Inv-loop μ-loop
 loop-again c =
@@ -64,7 +67,7 @@ loop-again c =
     let l = i .before .before in
     let s = l .before .before in
     going-on _ _ _ _ (s .before .pre) _ _ (l .before .loop .inv) (l .loop-test .taken) (λ i. s .shared-slice-known .given i .fits)
-    (sym (i .before .entry-agrees .ensures) ∙ not-false _ (i .if1 .left)) _ _ (c .record-at .ensures) (c .before .entry-size .ensures)
+    (sym (i .before .entry-agrees .ensures) ∙ not-false _ (i .if1 .left)) _ _ (c .size-at .ensures) (c .before .entry-size .ensures)
 
 returns-2 : tie.Need-returns-2 Inv-loop μ-loop
 returns-2 c = going-end _ _ _ _ (c .before .before .before .pre) _ _ (c .before .loop .inv) (c .loop-test .left)
@@ -80,7 +83,7 @@ index-agrees-spec =
     returns
     entry-size-requires
     add-to
-    record-at-requires
+    size-at-requires
     add-at
     loop-less
     loop-again
