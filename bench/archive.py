@@ -48,10 +48,15 @@ def workloads(count, size):
 
 
 def run(program, cases, folder):
-    """The answers, and how many instructions they took."""
-    done = subprocess.run(["valgrind", "--tool=callgrind", "--callgrind-out-file=" + os.path.join(folder, "calls"), program],
-                          input=cases, stdout=subprocess.PIPE, stderr=subprocess.PIPE, check=True)
-    return done.stdout, int(re.search(rb"Collected : *(\d+)", done.stderr).group(1))
+    """The answers, and how many instructions they took. Files and no pipes, which may hand over a case in pieces."""
+    asked, given = os.path.join(folder, "cases"), os.path.join(folder, "answers")
+    with open(asked, "wb") as file:
+        file.write(cases)
+    with open(asked, "rb") as source, open(given, "wb") as target:
+        done = subprocess.run(["valgrind", "--tool=callgrind", "--callgrind-out-file=" + os.path.join(folder, "calls"), program],
+                              stdin=source, stdout=target, stderr=subprocess.PIPE, check=True)
+    with open(given, "rb") as file:
+        return file.read(), int(re.search(rb"Collected : *(\d+)", done.stderr).group(1))
 
 
 def each(program, one, folder):
