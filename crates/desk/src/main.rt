@@ -22,6 +22,7 @@ mod words;
 use libc::STDERR_FILENO;
 use table_file::Sheet;
 use tally::Tally;
+use text::file;
 use text::input::Input;
 use text::list;
 use text::slice;
@@ -75,7 +76,7 @@ fn show_all(is_hex: bool, s: Sheet, all: &[u8]) {
 // Makes the datagram of the values in a file, or of those on standard input.
 fn make_file(path: &[u8], s: Sheet, all: &[u8]) {
     let mut buf = io::large_buffer();
-    match files::read_file(path, &mut buf) {
+    match file::read_file(path, &mut buf) {
         Input::Bytes(n) => make::from_text(path, slice::between(&buf, 0, n), s, all),
         Input::Long => {
             complain::of_file(path, phrase::LONG_VALUES);
@@ -111,7 +112,7 @@ fn run(command: usize, path: &[u8], all: &[u8]) {
 // Does what is asked under the table of a file.
 fn run_file(command: usize, path: &[u8]) {
     let mut buf = io::large_buffer();
-    match files::read_file(path, &mut buf) {
+    match file::read_file(path, &mut buf) {
         Input::Bytes(n) => run(command, path, slice::between(&buf, 0, n)),
         Input::Long => {
             complain::of_file(path, phrase::LONG_TABLE);

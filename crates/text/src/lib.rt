@@ -4,6 +4,7 @@
 
 pub mod big;
 pub mod decimal;
+pub mod file;
 pub mod float;
 pub mod input;
 pub mod list;
