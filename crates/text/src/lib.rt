@@ -1,4 +1,5 @@
-// Text that people write, for the programs: an input read to its end, words and numbers in a line, floats as decimals, and parts of slices.
+// Text that people write, for the programs: a file or an input read to its end, words and numbers in a line, floats as decimals, and parts of
+// slices.
 //
 // No function that a program calls has a premise: whatever stands in a text is answered.
 
