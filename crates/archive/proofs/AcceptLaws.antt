@@ -1,6 +1,6 @@
 -- What opening a file comes to: one of three outcomes, each exactly when the promise says so.
 -- Assumes nothing.
-use mathlib.Core.Path.{_≡_, refl, ap, subst}
+use mathlib.Core.Path.{_≡_, refl, sym, ap, subst, _∙_}
 use Prim.Native.Nat.{ℕ, _+_, _-_, _*_, _≤_}
 use native.Mathlib.Omega.{arith}
 use mathlib.Core.Bool.{Bool, true, false}
@@ -8,14 +8,14 @@ use mathlib.Core.Logic.{inl, inr}
 use mathlib.Core.Option.{Option, none, some, Option·none-ne-some}
 use mathlib.Core.List.{List}
 use lib.ListN.{length, take}
-use lib.Dec.{leb, ltb, eqb}
-use borrow.Author.Tests.{ltb-true, ltb-false, eqb-true, eqb-false}
+use lib.Dec.{leb, ltb}
+use borrow.Author.Tests.{ltb-true, ltb-false}
 use Rattle.wire.specs.Choose.{pick, or}
 use Rattle.archive.specs.declared.verdict.Verdict.{Verdict}
 use Rattle.archive.specs.declared.verdict.Verdict.the-variants.{Accepted, Full, Trailer, Records, NoMessage, NoRecord}
 use Rattle.archive.specs.declared.form.Form.{Form}
 use Rattle.archive.specs.declared.form.Form.the-variants.{One}
-use Rattle.archive.specs.Form.{limit, written, AreMessages, fileOf}
+use Rattle.archive.specs.Form.{formOf, limit, written, AreMessages, fileOf}
 use Rattle.archive.specs.Records.{messagesIn, messagesTo}
 use Rattle.archive.specs.Opening.{
   trailerAt,
@@ -33,16 +33,17 @@ use Rattle.archive.specs.Opening.{
   openingBy,
 }
 use Rattle.archive.specs.Promises.{AcceptedExactly, NoTrailer, OpenedWhen, OpenVerdicts, OpenLaw, OpenAnswers}
-use Rattle.archive.proofs.OpenLaws.{same-is}
+use Rattle.archive.proofs.FormLaws.{form-of, form-back, one-form}
+use Rattle.archive.proofs.OpenLaws.{same-is, file-form}
 use Rattle.archive.proofs.FileLaws.{file-holds, cut-messages}
 
 -- the three outcomes
 data Opens (file : List ℕ) : Archive → Type 0 where
   no-trailer : NoTrailer file → Opens file (refused Trailer)
-  no-records : (NoTrailer file → ⊥) → ((ms : List (List ℕ)) → AreMessages ms → file ≡ fileOf written ms → ⊥)
+  no-records : (NoTrailer file → ⊥) → ((f : Form) (ms : List (List ℕ)) → AreMessages ms → file ≡ fileOf f ms → ⊥)
       → Opens file (refused Records)
-  opened : (NoTrailer file → ⊥) → (ms : List (List ℕ)) → file ≡ fileOf written ms → AreMessages ms → length file ≤ 65535
-      → Opens file (holds written ms)
+  opened : (NoTrailer file → ⊥) → (f : Form) (ms : List (List ℕ)) → file ≡ fileOf f ms → AreMessages ms → length file ≤ limit f
+      → Opens file (holds f ms)
 
 to-messages : (file : List ℕ) (size : ℕ) (ms : List (List ℕ)) → messagesTo file size ≡ some ms → AreMessages ms
 unfolding messagesTo
@@ -67,24 +68,27 @@ module _ (file : List ℕ) where
   has-trailer a b c d (inr (inr (inl x))) = omega arith
   has-trailer a b c d (inr (inr (inr x))) = omega arith
 
-  -- a file that isn't accepted is that of no messages
-  of-none : archiveOf file ≡ refused Records → length file ≤ 65535 → (ms : List (List ℕ)) → AreMessages ms → file ≡ fileOf written ms → ⊥
-  of-none e few ms are is =
-      let h : archiveOf (fileOf written ms) ≡ holds written ms = file-holds written ms are (omega (arith, ap length is)) in
-      let z : _≡_ {A = ℕ} 0 1 = cc in
-      omega arith
+  module _ (f : Form) (form : formOf (formIn file) ≡ some f) (few : length file ≤ limit f) where
+    -- a file of a form that isn't accepted is that of no messages
+    of-none : archiveOf file ≡ refused Records → (g : Form) (ms : List (List ℕ)) → AreMessages ms → file ≡ fileOf g ms → ⊥
+    of-none e g ms are is =
+        let other : formOf (formIn file) ≡ some g = ap formOf (ap formIn is ∙ file-form g ms) ∙ form-of g in
+        let ef : f ≡ g = cc in
+        let h : archiveOf (fileOf g ms) ≡ holds g ms = file-holds g ms are (rw (← is, ← ef) few) in
+        let z : _≡_ {A = ℕ} 0 1 = cc in
+        omega arith
 
-  checked-opens : (NoTrailer file → ⊥) → length file ≤ 65535 → archiveOf file ≡ checked file One found → Opens file (checked file One found)
-  checked-opens has few = go found refl
-    where
-      by : (ms : List (List ℕ)) → AreMessages ms → (b : Bool) → same file (fileOf One ms) ≡ b
-          → archiveOf file ≡ pick b (holds One ms) (refused Records) → Opens file (pick b (holds One ms) (refused Records))
-      by ms are true eb e = opened has ms (same-is file (fileOf One ms) eb) are few
-      by ms are false eb e = no-records has (of-none e few)
+    checked-opens : (NoTrailer file → ⊥) → archiveOf file ≡ checked file f found → Opens file (checked file f found)
+    checked-opens has = go found refl
+      where
+        by : (ms : List (List ℕ)) → AreMessages ms → (b : Bool) → same file (fileOf f ms) ≡ b
+            → archiveOf file ≡ pick b (holds f ms) (refused Records) → Opens file (pick b (holds f ms) (refused Records))
+        by ms are true eb e = opened has f ms (same-is file (fileOf f ms) eb) are few
+        by ms are false eb e = no-records has (of-none e)
 
-      go : (r : Option (List (List ℕ))) → found ≡ r → archiveOf file ≡ checked file One r → Opens file (checked file One r)
-      go none er e = no-records has (of-none e few)
-      go (some ms) er e = by ms (to-messages file (indexAt file) ms er) (same file (fileOf One ms)) refl e
+        go : (r : Option (List (List ℕ))) → found ≡ r → archiveOf file ≡ checked file f r → Opens file (checked file f r)
+        go none er e = no-records has (of-none e)
+        go (some ms) er e = by ms (to-messages file (indexAt file) ms er) (same file (fileOf f ms)) refl e
 
   opens : Opens file (archiveOf file)
   unfolding archiveOf outgrows
@@ -94,7 +98,7 @@ module _ (file : List ℕ) where
           → archiveOf file ≡ pick b (refused Trailer) (checked file One found)
           → Opens file (pick b (refused Trailer) (checked file One found))
       ends l n few true eb e = no-trailer (inr (inr (inr (ltb-true _ _ eb))))
-      ends l n few false eb e = checked-opens (has-trailer l n few (ltb-false _ _ eb)) few e
+      ends l n few false eb e = checked-opens One (ap formOf n) few (has-trailer l n few (ltb-false _ _ eb)) e
 
       long : 8 ≤ length file → formIn file ≡ 1 → (b : Bool) → ltb 65535 (length file) ≡ b
           → archiveOf file ≡ pick (or b past) (refused Trailer) (checked file One found)
@@ -102,16 +106,15 @@ module _ (file : List ℕ) where
       long l n true eb e = no-trailer (inr (inr (inl (ltb-true _ _ eb))))
       long l n false eb e = ends l n (ltb-false _ _ eb) past refl e
 
-      other : 8 ≤ length file → (b : Bool) → eqb (formIn file) 1 ≡ b
-          → archiveOf file ≡ openAs file (pick b (some One) none) → Opens file (openAs file (pick b (some One) none))
-      other l true eb e = long l (eqb-true _ _ eb) (ltb 65535 (length file)) refl e
-      other l false eb e = no-trailer (inr (inl (eqb-false _ _ eb)))
+      other : 8 ≤ length file → (o : Option Form) → formOf (formIn file) ≡ o → archiveOf file ≡ openAs file o → Opens file (openAs file o)
+      other l (some One) eo e = long l (form-back (formIn file) One eo) (ltb 65535 (length file)) refl e
+      other l none eo e = no-trailer (inr (inl (λ n. Option·none-ne-some One (sym eo ∙ ap formOf n))))
 
       short : (b : Bool) → ltb (length file) 8 ≡ b
-          → archiveOf file ≡ pick b (refused Trailer) (openAs file (pick (eqb (formIn file) 1) (some One) none))
-          → Opens file (pick b (refused Trailer) (openAs file (pick (eqb (formIn file) 1) (some One) none)))
+          → archiveOf file ≡ pick b (refused Trailer) (openAs file (formOf (formIn file)))
+          → Opens file (pick b (refused Trailer) (openAs file (formOf (formIn file))))
       short true eb e = no-trailer (inl (ltb-true _ _ eb))
-      short false eb e = other (ltb-false _ _ eb) (eqb (formIn file) 1) refl e
+      short false eb e = other (ltb-false _ _ eb) (formOf (formIn file)) refl e
 
 -- ---- the promises
 
@@ -124,13 +127,22 @@ module _ (file : List ℕ) where
       go : (a : Archive) → Opens file a → a ≡ holds f ms → (file ≡ fileOf f ms) × AreMessages ms × (length file ≤ limit f)
       go a (no-trailer x) e = absurd (let z : _≡_ {A = ℕ} 0 1 = cc in omega arith)
       go a (no-records x y) e = absurd (let z : _≡_ {A = ℕ} 0 1 = cc in omega arith)
-      go a (opened has ns is are few) e =
-          let ef : written ≡ f = cc in
+      go a (opened has g ns is are few) e =
+          let ef : g ≡ f = cc in
           let em : ns ≡ ms = cc in
           (rw (← ef, ← em) is, rw (← em) are, rw (← ef) few)
 
   pub is-held : (f : Form) (ms : List (List ℕ)) → file ≡ fileOf f ms → AreMessages ms → length file ≤ limit f → archiveOf file ≡ holds f ms
   is-held f ms is are few = rw is (file-holds f ms are (rw (← is) few))
+
+  -- no refusal is an acceptance
+  pub refused-other : (v : Verdict) → archiveOf file ≡ refused v → v ≡ Accepted → ⊥
+  refused-other v = go (archiveOf file) (opens file)
+    where
+      go : (a : Archive) → Opens file a → a ≡ refused v → v ≡ Accepted → ⊥
+      go a (no-trailer x) e q = let z : _≡_ {A = ℕ} 0 1 = cc in omega arith
+      go a (no-records x y) e q = let z : _≡_ {A = ℕ} 0 1 = cc in omega arith
+      go a (opened has f ms is are few) e q = let z : _≡_ {A = ℕ} 0 1 = cc in omega arith
 
   -- when opening has each verdict
   given : (v : Verdict) → openingBy (archiveOf file) .verdict ≡ v → OpenedWhen file v
@@ -138,8 +150,10 @@ module _ (file : List ℕ) where
     where
       go : (a : Archive) → Opens file a → openingBy a .verdict ≡ v → OpenedWhen file v
       go a (no-trailer x) e = subst (OpenedWhen file) e x
-      go a (no-records x y) e = subst (OpenedWhen file) e (x, y)
-      go a (opened has ms is are few) e = subst (OpenedWhen file) e (ms, is, are, few)
+      go a (no-records x y) e = subst (OpenedWhen file) e (x, y written)
+      go a (opened has f ms is are few) e =
+          let w : f ≡ written = one-form f in
+          subst (OpenedWhen file) e (ms, rw w at is, are, rw w at few)
 
   gives : (v : Verdict) → OpenedWhen file v → openingBy (archiveOf file) .verdict ≡ v
   gives Accepted (ms, is, are, few) = rw (is-held written ms is are few)
@@ -148,13 +162,13 @@ module _ (file : List ℕ) where
       go : (a : Archive) → Opens file a → openingBy a .verdict ≡ Trailer
       go a (no-trailer t) = refl
       go a (no-records has n) = absurd (has x)
-      go a (opened has ms is are few) = absurd (has x)
+      go a (opened has f ms is are few) = absurd (has x)
   gives Records (has, n) = go (archiveOf file) (opens file)
     where
       go : (a : Archive) → Opens file a → openingBy a .verdict ≡ Records
       go a (no-trailer t) = absurd (has t)
       go a (no-records h m) = refl
-      go a (opened h ms is are few) = absurd (n ms are is)
+      go a (opened h f ms is are few) = absurd (n ms are (is ∙ rw (one-form f)))
   gives Full w = absurd w
   gives NoMessage w = absurd w
   gives NoRecord w = absurd w

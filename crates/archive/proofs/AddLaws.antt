@@ -18,7 +18,6 @@ use Rattle.wire.proofs.StoreLaws.{two-stores, three-stores}
 use Rattle.archive.specs.declared.verdict.Verdict.{Verdict}
 use Rattle.archive.specs.declared.verdict.Verdict.the-variants.{Accepted, Full, Records, NoMessage}
 use Rattle.archive.specs.declared.form.Form.{Form}
-use Rattle.archive.specs.declared.form.Form.the-variants.{One}
 use Rattle.archive.specs.declared.records.Walked.{Walked}
 use Rattle.archive.specs.declared.add.Kept.{Kept}
 use Rattle.archive.specs.Form.{
@@ -39,6 +38,7 @@ use Rattle.archive.specs.Form.{
 use Rattle.archive.specs.Records.{messagesTo}
 use Rattle.archive.specs.Adding.{Outcome, refused, stores, isFull, adding, closing, keptBy, fileBy}
 use Rattle.archive.specs.Walking.{walkedFrom, isWhole, listed}
+use Rattle.archive.proofs.FormLaws.{entries-long}
 use Rattle.archive.proofs.RecordLaws.{length-record, length-index, length-closing}
 use Rattle.archive.proofs.LeftLaws.{
   whole-some,
@@ -75,7 +75,7 @@ pub full-size : (f : Form) (room size n : ℕ) → limit f < size → true ≡ i
 full-size f room size n h = full-over f room size n (omega arith)
 
 pub full-entries : (f : Form) (room size n : ℕ) → limit f < n → true ≡ isFull f room size n
-full-entries One room size n h = full-over One room size n (omega arith)
+full-entries f room size n h = full-over f room size n (omega (arith, entries-long f n))
 
 or-false : (a b : Bool) → or a b ≡ false → (a ≡ false) × (b ≡ false)
 or-false true b e = (cc, cc)
@@ -86,10 +86,6 @@ unfolding isFull
 not-full f room size n e =
     let b = or-false _ _ e in
     (ltb-false room (fileSize f size n) (b .0), ltb-false (limit f) (fileSize f size n) (b .1))
-
--- within the limit no sum is over what the code holds
-pub entries-few : (f : Form) (n : ℕ) → n ≤ limit f → entrySize f * n ≤ 262140
-entries-few One n h = omega arith
 
 -- ---- stores as runs of bytes
 

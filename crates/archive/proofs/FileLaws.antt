@@ -13,10 +13,10 @@ use borrow.Author.Tests.{le-ltb, le-leb}
 use Rattle.wire.specs.Choose.{pick}
 use Rattle.wire.proofs.ChooseLaws.{and-right}
 use Rattle.archive.specs.declared.form.Form.{Form}
-use Rattle.archive.specs.declared.form.Form.the-variants.{One}
 use Rattle.archive.specs.Form.{entrySize, limit, AreMessages, recordsBytes, trailerLen, closingBytes, fileOf}
 use Rattle.archive.specs.Records.{messageIn, lengthIn, recordFits, before, cutAll, messagesTo}
 use Rattle.archive.specs.Opening.{trailerAt, holds, outgrows, archiveOf}
+use Rattle.archive.proofs.FormLaws.{form-of}
 use Rattle.archive.proofs.RecordLaws.{length-file, cut-back}
 use Rattle.archive.proofs.OpenLaws.{is-same, file-form, file-index, file-entries}
 
@@ -26,19 +26,20 @@ records-in f ms = take-at (recordsBytes ms) (closingBytes f ms) (length (records
 
 pub file-holds : (f : Form) (ms : List (List ℕ)) → AreMessages ms → length (fileOf f ms) ≤ limit f → archiveOf (fileOf f ms) ≡ holds f ms
 unfolding archiveOf outgrows messagesTo
-file-holds One ms are few =
+file-holds f ms are few =
     let at = length (recordsBytes ms) in
     rw (
-      le-ltb (length (fileOf One ms)) trailerLen (omega (arith, length-file One ms)),
-      file-form One ms,
-      le-ltb (limit One) (length (fileOf One ms)) few,
-      file-index One ms few,
-      file-entries One ms few,
-      le-ltb (trailerAt (fileOf One ms)) (at + entrySize One * length ms) (omega (arith, length-file One ms)),
-      le-leb at (length (fileOf One ms)) (omega (arith, length-file One ms)),
-      records-in One ms,
+      le-ltb (length (fileOf f ms)) trailerLen (omega (arith, length-file f ms)),
+      file-form f ms,
+      form-of f,
+      le-ltb (limit f) (length (fileOf f ms)) few,
+      file-index f ms few,
+      file-entries f ms few are,
+      le-ltb (trailerAt (fileOf f ms)) (at + entrySize f * length ms) (omega (arith, length-file f ms)),
+      le-leb at (length (fileOf f ms)) (omega (arith, length-file f ms)),
+      records-in f ms,
       cut-back ms are,
-      is-same (fileOf One ms),
+      is-same (fileOf f ms),
     )
 
 -- what is cut are messages

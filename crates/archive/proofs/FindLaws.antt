@@ -4,6 +4,7 @@ use mathlib.Core.Path.{_≡_, refl, sym, ap, subst, _∙_}
 use mathlib.Core.Bool.{Bool, true, false}
 use mathlib.Core.List.{List, [], _∷_, _++_, append-assoc}
 use Prim.Native.Nat.{ℕ, zero, suc, _+_, _-_, _*_, _^_, _≤_, _<_}
+use native.Mathlib.Nat.{mul-suc, mul-le-mul-left}
 use native.Mathlib.Omega.{arith}
 use lib.ListN.{length, take, drop, length-append, drop-of-length-le}
 use lib.Seq.{take-at, drop-cons}
@@ -17,13 +18,13 @@ use Rattle.wire.proofs.NumberLaws.{bytes-left, bytes-right, number-back, length
 use Rattle.archive.specs.declared.verdict.Verdict.{Verdict}
 use Rattle.archive.specs.declared.verdict.Verdict.the-variants.{Accepted, NoRecord}
 use Rattle.archive.specs.declared.form.Form.{Form}
+use Rattle.archive.specs.declared.form.Form.the-variants.{One}
 use Rattle.archive.specs.declared.open.Opening.{Opening}
 use Rattle.archive.specs.Verdict.{verdictNumber}
 use Rattle.archive.specs.Form.{
   offsetWidth,
   entrySize,
   limit,
-  written,
   messageFits,
   AreMessages,
   recordBytes,
@@ -37,12 +38,12 @@ use Rattle.archive.specs.Form.{
 }
 use Rattle.archive.specs.Opening.{Archive, refused, holds, archiveOf, openingBy}
 use Rattle.archive.specs.Finding.{messageAt, offsetAt, noneFound, readingBy, counted, firstOf, firstIn}
-use Rattle.archive.specs.Walking.{Opened}
-use Rattle.archive.proofs.FormLaws.{width-is, entry-is, limit-fits}
+use Rattle.archive.specs.Walking.{InForm, not-opened, opened, Opened}
+use Rattle.archive.proofs.FormLaws.{limit-fits, width-most, one-form}
 use Rattle.archive.proofs.RecordLaws.{length-record, length-entry, length-file, message-least, message-most}
-use Rattle.archive.proofs.OpenLaws.{field-behind, field-before, one-form}
+use Rattle.archive.proofs.OpenLaws.{field-behind, field-before}
 use Rattle.archive.proofs.VerdictLaws.{verdict-one}
-use Rattle.archive.proofs.AcceptLaws.{held-is, is-held, open-verdicts}
+use Rattle.archive.proofs.AcceptLaws.{held-is, refused-other}
 
 -- ---- an index entry's fields
 
@@ -164,14 +165,6 @@ module _ (f : Form) (ms : List (List ℕ)) (a : AreMessages ms) (are : AreBytes 
 
 -- ---- what the answer to opening says
 
--- a refusal has a number above 0
-refused-why : (file : List ℕ) (v : Verdict) → archiveOf file ≡ refused v → verdictNumber v ≡ 0 → ⊥
-refused-why file v e z =
-    let (ms, is, are, few) = open-verdicts file Accepted .0 (ap (λ x. openingBy x .verdict) e ∙ verdict-one v Accepted z) in
-    let held = is-held file written ms is are few in
-    let n : _≡_ {A = ℕ} 0 1 = cc in
-    omega arith
-
 -- the messages of an archive
 abbrev pub heldBy : Archive → List (List ℕ)
 heldBy (refused v) = []
@@ -185,19 +178,23 @@ module _ (file : List ℕ) (o : Opening) (eo : o ≡ openingBy (archiveOf file))
       go (refused v) = refl
       go (holds f ms) = refl
 
-  opened-as : (a : Archive) → o ≡ openingBy a → ((v : Verdict) → a ≡ refused v → ⊥)
-      → openingBy a ≡ record { verdict = Accepted; size = o .size; entries = o .entries }
-  opened-as (refused v) e h = absurd (h v refl)
-  opened-as (holds f ms) e h = rw e
+  module _ (f : Form) (form : InForm f (archiveOf file)) where
+    opened-as : (a : Archive) → InForm f a → archiveOf file ≡ a → ((v : Verdict) → a ≡ refused v → ⊥)
+        → Opened file f (o .size) (o .entries)
+    opened-as a (not-opened v) e h = absurd (h v refl)
+    opened-as a (opened ms) e h = record { messages = ms; are-held = e; size-is = rw (eo, e); count-is = rw (eo, e) }
 
-  -- some entries, or verdict 0: the file was opened
-  pub opened-some : 0 < o .entries → Opened file (o .size) (o .entries)
-  opened-some h = opened-as (archiveOf file) eo (λ v e. let z = ap (λ (x : Opening). x .entries) (eo ∙ ap openingBy e) in omega arith)
+    -- some entries, or verdict 0: the file was opened
+    pub opened-some : 0 < o .entries → Opened file f (o .size) (o .entries)
+    opened-some h =
+        opened-as (archiveOf file) form refl (λ v e. let z = ap (λ (x : Opening). x .entries) (eo ∙ ap openingBy e) in omega arith)
 
-  pub opened-zero : verdictNumber (o .verdict) ≡ 0 → Opened file (o .size) (o .entries)
-  opened-zero h =
-      opened-as (archiveOf file) eo
-      (λ v e. refused-why file v e (sym (ap (λ (x : Opening). verdictNumber (x .verdict)) (eo ∙ ap openingBy e)) ∙ h))
+    pub opened-zero : verdictNumber (o .verdict) ≡ 0 → Opened file f (o .size) (o .entries)
+    opened-zero h =
+        opened-as (archiveOf file) form refl
+        (λ v e.
+        let same : verdictNumber (o .verdict) ≡ verdictNumber v = ap (λ (x : Opening). verdictNumber (x .verdict)) (eo ∙ ap openingBy e) in
+        refused-other file v e (verdict-one v Accepted (sym same ∙ h)))
 
   -- any other verdict is shown
   pub shown-refused : (n : ℕ) → (verdictNumber (o .verdict) ≡ 0 → ⊥) → noneFound (o .verdict) ≡ readingBy n (archiveOf file)
@@ -207,39 +204,34 @@ module _ (file : List ℕ) (o : Opening) (eo : o ≡ openingBy (archiveOf file))
       go (refused v) e = rw e
       go (holds f ms) e = absurd (h (ap (λ (x : Opening). verdictNumber (x .verdict)) e))
 
-held : (f : Form) (a : Archive) (size n : ℕ) → ((v : Verdict) → a ≡ refused v → verdictNumber v ≡ 0 → ⊥)
-    → openingBy a ≡ record { verdict = Accepted; size = size; entries = n }
-    → (a ≡ holds f (heldBy a)) × (size ≡ length (recordsBytes (heldBy a))) × (n ≡ length (heldBy a))
-held f (refused v) size n why e = absurd (why v refl (ap (λ (o : Opening). verdictNumber (o .verdict)) e))
-held f (holds g ms) size n why e =
-    (ap (λ x. holds x ms) (one-form g f), sym (ap (λ (o : Opening). o .size) e), sym (ap (λ (o : Opening). o .entries) e))
+-- there is one form
+pub in-one : (a : Archive) → InForm One a
+in-one (refused v) = not-opened v
+in-one (holds g ms) = rw (one-form g) (opened ms)
 
-module _ (file : List ℕ) (f : Form) (size count : ℕ) (o : Opened file size count) where
+module _ (file : List ℕ) (f : Form) (size count : ℕ) (o : Opened file f size count) where
   abbrev ms : List (List ℕ)
-  ms = heldBy (archiveOf file)
-
-  is : (archiveOf file ≡ holds f ms) × (size ≡ length (recordsBytes ms)) × (count ≡ length ms)
-  is = held f (archiveOf file) size count (refused-why file) o
+  ms = o .messages
 
   pub shown-zero : (n : ℕ) → n ≡ 0 → noneFound NoRecord ≡ readingBy n (archiveOf file)
-  shown-zero n e = rw e (sym (ap (readingBy 0) (is .0)))
+  shown-zero n e = rw e (sym (ap (readingBy 0) (o .are-held)))
 
   pub shown-past : (n : ℕ) → count < n → noneFound NoRecord ≡ readingBy n (archiveOf file)
   shown-past zero h = absurd (omega arith)
-  shown-past (suc i) h = sym (ap (readingBy (suc i)) (is .0) ∙ rw (le-ltb i (length ms) (omega (arith, is .2))))
+  shown-past (suc i) h = sym (ap (readingBy (suc i)) (o .are-held) ∙ rw (le-ltb i (length ms) (omega (arith, o .count-is))))
 
   shown-nth : (i : ℕ) → i < count
       → record { verdict = Accepted; number = suc i; message = part (offsetAt ms i + 2) (length (messageAt ms i)) }
       ≡ readingBy (suc i) (archiveOf file)
-  shown-nth i h = sym (ap (readingBy (suc i)) (is .0) ∙ rw (lt-ltb i (length ms) (omega (arith, is .2))))
+  shown-nth i h = sym (ap (readingBy (suc i)) (o .are-held) ∙ rw (lt-ltb i (length ms) (omega (arith, o .count-is))))
 
   module _ (are : AreBytes file) where
     whole : (file ≡ fileOf f ms) × AreMessages ms × (length file ≤ limit f)
-    whole = held-is file f ms (is .0)
+    whole = held-is file f ms (o .are-held)
 
     module _ (i : ℕ) (h : i < count) where
       there : i < length ms
-      there = omega (arith, is .2)
+      there = omega (arith, o .count-is)
 
       in-file : {A : Type 0} (g : List ℕ → A) (x : A) → g (fileOf f ms) ≡ x → g file ≡ x
       in-file g x e = ap g (whole .0) ∙ e
@@ -251,27 +243,30 @@ module _ (file : List ℕ) (f : Form) (size count : ℕ) (o : Opened file size c
       most-file = subst (λ x. length x ≤ limit f) (whole .0) (whole .2)
 
       file-long : length file ≡ size + entrySize f * count + 8
-      file-long = ap length (whole .0) ∙ length-file f ms ∙ rw (is .1, is .2)
+      file-long = omega (arith, ap length (whole .0), length-file f ms, o .size-is, ap (entrySize f *_) (o .count-is))
 
       -- the entry that i entries precede
       entry-in : size + entrySize f * i + entrySize f + 8 ≤ length file
       entry-in =
-          let a : entrySize f * i ≡ 4 * i = ap (_* i) (sym (entry-is f)) in
-          let b : entrySize f * count ≡ 4 * count = ap (_* count) (sym (entry-is f)) in
-          omega (arith, file-long, entry-is f)
+          let l : suc i ≤ count = omega arith in
+          omega (arith, file-long, mul-suc (entrySize f) i, mul-le-mul-left (entrySize f) l)
 
       offset-is : fieldAt (size + entrySize f * i) (offsetWidth f) file ≡ offsetAt ms i
-      offset-is = rw (is .1) (in-file (fieldAt _ _) _ (file-offset f ms (whole .1) are-file most-file i there))
+      offset-is =
+          ap (λ k. fieldAt (k + entrySize f * i) (offsetWidth f) file) (o .size-is)
+          ∙ in-file (fieldAt _ _) _ (file-offset f ms (whole .1) are-file most-file i there)
 
       session-is : fieldAt (size + entrySize f * i + offsetWidth f) 2 file ≡ sessionOf (messageAt ms i)
-      session-is = rw (is .1) (in-file (fieldAt _ _) _ (file-session f ms (whole .1) are-file most-file i there))
+      session-is =
+          ap (λ k. fieldAt (k + entrySize f * i + offsetWidth f) 2 file) (o .size-is)
+          ∙ in-file (fieldAt _ _) _ (file-session f ms (whole .1) are-file most-file i there)
 
       -- its record
       length-is : fieldAt (offsetAt ms i) 2 file ≡ length (messageAt ms i)
       length-is = in-file (fieldAt _ _) _ (file-length f ms (whole .1) are-file most-file i there)
 
       record-there : offsetAt ms i + 2 ≤ length file
-      record-there = omega (arith, record-in ms i there, file-long, is .1)
+      record-there = omega (arith, record-in ms i there, file-long, o .size-is)
 
     -- the n-th from 1, as the code goes
     module _ (n : ℕ) (first : 0 < n) (last : n ≤ count) (e w : ℕ) (ee : e ≡ entrySize f) (ew : w ≡ offsetWidth f) where
@@ -343,16 +338,17 @@ pub record Seeking (file : List ℕ) (f : Form) (o : Opening) (session i at : �
   pub place : at ≡ o .size + entrySize f * i + offsetWidth f
   pub left : firstIn session (archiveOf file) ≡ numbered i (firstOf session (drop i (heldBy (archiveOf file))))
 
-pub seek-small : (file : List ℕ) (f : Form) (o : Opening) → o ≡ openingBy (archiveOf file) → o .size ≤ limit f
-seek-small file f o eo = rw eo (go (archiveOf file) refl)
+pub seek-small : (file : List ℕ) (f : Form) (o : Opening) → o ≡ openingBy (archiveOf file) → InForm f (archiveOf file) → o .size ≤ limit f
+seek-small file f o eo form = rw eo (go (archiveOf file) form refl)
   where
-    go : (a : Archive) → archiveOf file ≡ a → openingBy a .size ≤ limit f
-    go (refused v) e = omega arith
-    go (holds g ms) e =
-        let (is, are, few) = held-is file f ms (e ∙ ap (λ x. holds x ms) (one-form g f)) in
+    go : (a : Archive) → InForm f a → archiveOf file ≡ a → openingBy a .size ≤ limit f
+    go a (not-opened v) e = omega arith
+    go a (opened ms) e =
+        let (is, are, few) = held-is file f ms e in
         omega (arith, ap length is, length-file f ms)
 
-module _ (file : List ℕ) (f : Form) (o : Opening) (eo : o ≡ openingBy (archiveOf file)) (session : ℕ) where
+module _ (file : List ℕ) (f : Form) (o : Opening) (eo : o ≡ openingBy (archiveOf file)) (form : InForm f (archiveOf file))
+    (session : ℕ) where
   pub seek-start : (w : ℕ) → w ≡ offsetWidth f → Seeking file f o session 0 (o .size + w)
   seek-start w ew = record { within = omega arith; place = omega arith; left = first-start session (archiveOf file) }
 
@@ -361,15 +357,15 @@ module _ (file : List ℕ) (f : Form) (o : Opening) (eo : o ≡ openingBy (archi
 
   module _ (are : AreBytes file) where
     module _ (i at : ℕ) (s : Seeking file f o session i at) (more : i < o .entries) where
-      found : Opened file (o .size) (o .entries)
-      found = opened-some file o eo (omega arith)
+      found : Opened file f (o .size) (o .entries)
+      found = opened-some file o eo f form (omega arith)
 
       pub seek-in : at + entrySize f ≤ length file
-      seek-in = omega (arith, s .place, entry-in file f (o .size) (o .entries) found are i more, width-is f)
+      seek-in = omega (arith, s .place, entry-in file f (o .size) (o .entries) found are i more, width-most f)
 
       module _ (v : ℕ) (ev : v ≡ fieldAt at 2 file) where
         v-is : v ≡ sessionOf (messageAt (heldBy (archiveOf file)) i)
-        v-is = ev ∙ rw (s .place) (session-is file f (o .size) (o .entries) found are i more)
+        v-is = ev ∙ rw (s .place, found .are-held) (session-is file f (o .size) (o .entries) found are i more)
 
         listed : i < length (heldBy (archiveOf file))
         listed = omega (arith, held-count file o eo)

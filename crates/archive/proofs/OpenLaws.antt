@@ -18,7 +18,6 @@ use Rattle.wire.proofs.NumberLaws.{bytes-slice, bytes-back, number-back, length
 use Rattle.wire.proofs.PartLaws.{cut-slice}
 use Rattle.archive.specs.declared.verdict.Verdict.the-variants.{Accepted, Trailer, Records}
 use Rattle.archive.specs.declared.form.Form.{Form}
-use Rattle.archive.specs.declared.form.Form.the-variants.{One}
 use Rattle.archive.specs.declared.records.Walked.{Walked}
 use Rattle.archive.specs.declared.open.Opening.{Opening}
 use Rattle.archive.specs.Form.{
@@ -27,6 +26,7 @@ use Rattle.archive.specs.Form.{
   offsetWidth,
   entrySize,
   limit,
+  AreMessages,
   recordsBytes,
   entryBytes,
   indexBytes,
@@ -50,9 +50,10 @@ use Rattle.archive.specs.Opening.{
   archiveOf,
   openingBy,
 }
+use Rattle.archive.specs.Promises.{RecordsTo}
 use Rattle.archive.specs.Walking.{cutSize, walkedFrom, isWhole, listed, sessionIn, entryAgrees, Trailed}
-use Rattle.archive.proofs.FormLaws.{number-is, entry-is, limit-is, limit-fits}
-use Rattle.archive.proofs.RecordLaws.{length-entry, length-index, length-file}
+use Rattle.archive.proofs.FormLaws.{number-fits, limit-fits, limit-small, entries-fit, form-of, form-back, form-none}
+use Rattle.archive.proofs.RecordLaws.{length-entry, length-index, length-file, records-least}
 use Rattle.archive.proofs.LeftLaws.{
   whole-some,
   walked-whole,
@@ -282,7 +283,7 @@ module _ (f : Form) (at n : ℕ) where
 
   trailer-form : fieldAt 6 2 (trailerBytes f at n) ≡ formNumber f
   unfolding fieldAt trailerBytes numberBytes
-  trailer-form = number-back 2 (formNumber f) (omega (arith, number-is f))
+  trailer-form = number-back 2 (formNumber f) (number-fits f)
 
 -- a file of messages under its form's limit says so in its trailer
 module _ (f : Form) (ms : List (List ℕ)) where
@@ -306,27 +307,17 @@ module _ (f : Form) (ms : List (List ℕ)) where
   file-form = trailer-field 6 2 ∙ trailer-form f (length (recordsBytes ms)) (length ms)
 
   module _ (small : length (fileOf f ms) ≤ limit f) where
-    sized : length (recordsBytes ms) + 4 * length ms + 8 ≤ 65535
-    sized =
-        let e : entrySize f * length ms ≡ 4 * length ms = ap (_* length ms) (sym (entry-is f)) in
-        omega (arith, limit-is f, length-file f ms)
-
     pub file-index : indexAt (fileOf f ms) ≡ length (recordsBytes ms)
     file-index =
         let e : trailerAt (fileOf f ms) + 0 ≡ trailerAt (fileOf f ms) = omega arith in
-        rw e at (trailer-field 0 4) ∙ trailer-index f (length (recordsBytes ms)) (length ms) (omega (arith, sized))
+        rw e at (trailer-field 0 4) ∙ trailer-index f (length (recordsBytes ms)) (length ms) (omega (arith, length-file f ms, limit-small f))
 
-    pub file-entries : entriesIn (fileOf f ms) ≡ length ms
-    file-entries = trailer-field 4 2 ∙ trailer-entries f (length (recordsBytes ms)) (length ms) (omega (arith, sized))
+    pub file-entries : AreMessages ms → entriesIn (fileOf f ms) ≡ length ms
+    file-entries are =
+        let few = entries-fit f (length (recordsBytes ms)) (length ms) (records-least ms are) (rw (← length-file f ms) small) in
+        trailer-field 4 2 ∙ trailer-entries f (length (recordsBytes ms)) (length ms) few
 
 -- ---- 52
-
-pub form-back : (k : ℕ) (f : Form) → formOf k ≡ some f → k ≡ formNumber f
-form-back k One e = eqb-true k 1 (go (eqb k 1) e)
-  where
-    go : (b : Bool) → pick b (some One) none ≡ some One → b ≡ true
-    go true q = refl
-    go false q = absurd (Option·none-ne-some One q)
 
 module _ (file : List ℕ) (are : AreBytes file) where
   -- the bytes of a field are those of its number
@@ -366,13 +357,16 @@ module _ (file : List ℕ) (are : AreBytes file) where
         )
 
     module _ (ms : List (List ℕ)) (is : messagesTo file size ≡ some ms) where
+      told-records : RecordsTo file size ms
+      told-records = cut-records file size ms are is
+
       records-long : length (recordsBytes ms) ≡ size
-      records-long = told-size file size ms (cut-records file size ms are is)
+      records-long = told-size file size ms told-records
 
       count-other : (length ms ≡ n → ⊥) → same file (fileOf f ms) ≡ false
       count-other other =
           same-by false file (fileOf f ms) (λ q. absurd (true≢false (sym q)))
-          (λ q. absurd (other (sym (t .entries-are ∙ ap entriesIn q ∙ file-entries f ms (rw q at (t .most))))))
+          (λ q. absurd (other (sym (t .entries-are ∙ ap entriesIn q ∙ file-entries f ms (rw q at (t .most)) (told-records .messages)))))
 
       entries-long : length ms ≡ n → entrySize f * length ms ≡ entrySize f * n
       entries-long en = ap (entrySize f *_) en
@@ -386,7 +380,7 @@ module _ (file : List ℕ) (are : AreBytes file) where
       file-cut =
           let p = slice-split size end (length file) file (omega (arith, t .index-in)) (omega (arith, t .whole)) in
           let s = rw (take-length file) at p in
-          sym (take-append-drop size file) ∙ rw (cut-records file size ms are is .records, s, trailer-is)
+          sym (take-append-drop size file) ∙ rw (told-records .records, s, trailer-is)
 
       index-decides : length ms ≡ n → size + entrySize f * n ≡ end
           → same file (fileOf f ms) ≡ same (slice size end file) (indexBytes f 0 ms)
@@ -457,31 +451,22 @@ module _ (file : List ℕ) (are : AreBytes file) where
 
 -- ---- 51, as the code goes
 
-pub one-form : (f g : Form) → f ≡ g
-one-form One One = refl
-
-form-of : (f : Form) → formOf (formNumber f) ≡ some f
-form-of One = refl
-
-form-none : (f : Form) (k : ℕ) → (k ≡ formNumber f → ⊥) → formOf k ≡ none
-form-none One k other = rw (ne-eqb k 1 other)
-
 module _ (file : List ℕ) where
   pub open-short : length file < trailerLen → openingBy (refused Trailer) ≡ openingBy (archiveOf file)
   unfolding archiveOf
   open-short h = rw (lt-ltb (length file) trailerLen h)
 
-  module _ (long : trailerLen ≤ length file) (f : Form) (v k : ℕ) (ev : v ≡ formIn file) (ek : k ≡ formNumber f) where
+  module _ (long : trailerLen ≤ length file) (v : ℕ) (ev : v ≡ formIn file) where
     as-form : (o : Option Form) → formOf (formIn file) ≡ o → archiveOf file ≡ openAs file o
     unfolding archiveOf
     as-form o e = rw (le-ltb (length file) trailerLen long, e)
 
-    pub open-other : (v ≡ k → ⊥) → openingBy (refused Trailer) ≡ openingBy (archiveOf file)
-    open-other other = ap openingBy (sym (as-form none (form-none f (formIn file) (λ q. other (ev ∙ q ∙ sym ek)))))
+    pub open-other : ((f : Form) → v ≡ formNumber f → ⊥) → openingBy (refused Trailer) ≡ openingBy (archiveOf file)
+    open-other other = ap openingBy (sym (as-form none (form-none (formIn file) (λ f q. other f (ev ∙ q)))))
 
-    module _ (form : v ≡ k) (m : ℕ) (em : m ≡ limit f) where
+    module _ (f : Form) (form : v ≡ formNumber f) (m : ℕ) (em : m ≡ limit f) where
       form-is : formOf (formIn file) ≡ some f
-      form-is = rw (← ev, form, ek) (form-of f)
+      form-is = rw (← ev, form) (form-of f)
 
       outgrown : (b : Bool) → outgrows file f ≡ b
           → openingBy (archiveOf file) ≡ openingBy (pick b (refused Trailer) (checked file f (messagesTo file (indexAt file))))

@@ -74,6 +74,19 @@ module _ (m : List ℕ) (h : messageFits m ≡ true) where
   unfolding messageFits
   message-most = leb-true (length m) messageMost (and-left _ _ (and-right (leb headerLen (length m)) _ h))
 
+-- records of messages have 18 bytes or more each
+pub records-least : (ms : List (List ℕ)) → AreMessages ms → 18 * length ms ≤ length (recordsBytes ms)
+unfolding recordsBytes
+records-least [] a = omega arith
+records-least (m ∷ ms) a =
+    omega (
+      arith,
+      length-append (recordBytes m) (recordsBytes ms),
+      length-record m,
+      message-least m (a .0),
+      records-least ms (a .1),
+    )
+
 -- the test, as the code goes
 pub message-short : (m : List ℕ) → length m < headerLen → false ≡ messageFits m
 unfolding messageFits

@@ -89,7 +89,7 @@ held-by-byte file ms b e =
     rw is
     (record {
       index-at = file-index written ms (rw (← is) few);
-      entries-are = file-entries written ms (rw (← is) few);
+      entries-are = file-entries written ms (rw (← is) few) are;
       places = place-law ms are (rw (← is) b) (rw (← is) few);
     })
 

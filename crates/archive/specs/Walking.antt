@@ -8,13 +8,12 @@ use lib.ListN.{length}
 use lib.Dec.{eqb}
 use Rattle.wire.specs.Choose.{pick, and}
 use Rattle.wire.specs.Header.{fieldAt, sessionAt}
-use Rattle.archive.specs.declared.verdict.Verdict.the-variants.{Accepted}
+use Rattle.archive.specs.declared.verdict.Verdict.{Verdict}
 use Rattle.archive.specs.declared.form.Form.{Form}
 use Rattle.archive.specs.declared.records.Walked.{Walked}
-use Rattle.archive.specs.declared.open.Opening.{Opening}
-use Rattle.archive.specs.Form.{formOf, offsetWidth, entrySize, limit, trailerLen}
+use Rattle.archive.specs.Form.{formOf, offsetWidth, entrySize, limit, recordsBytes, trailerLen}
 use Rattle.archive.specs.Records.{lengthIn, recordFits}
-use Rattle.archive.specs.Opening.{indexAt, entriesIn, formIn, archiveOf, openingBy}
+use Rattle.archive.specs.Opening.{indexAt, entriesIn, formIn, Archive, refused, holds, archiveOf}
 
 -- the size of the record that bytes begin with, 0 where they begin with none of a message
 unfoldable pub cutSize : List ℕ → ℕ
@@ -51,6 +50,14 @@ pub record Trailed (file : List ℕ) (f : Form) (size n end : ℕ) : Type 0 wher
   pub index-in : size + entrySize f * n ≤ end
   pub most : length file ≤ limit f
 
--- the file was opened: its records have `size` bytes, and it has n entries
-abbrev pub Opened : List ℕ → ℕ → ℕ → Type 0
-Opened file size n = openingBy (archiveOf file) ≡ record { verdict = Accepted; size = size; entries = n }
+-- if a file was opened, then in this form
+pub data InForm (f : Form) : Archive → Type 0 where
+  not-opened : (v : Verdict) → InForm f (refused v)
+  opened : (ms : List (List ℕ)) → InForm f (holds f ms)
+
+-- the file was opened: it holds n messages in a form, and their records have `size` bytes
+pub record Opened (file : List ℕ) (f : Form) (size n : ℕ) : Type 0 where
+  pub messages : List (List ℕ)
+  pub are-held : archiveOf file ≡ holds f messages
+  pub size-is : size ≡ length (recordsBytes messages)
+  pub count-is : n ≡ length messages

@@ -5,7 +5,7 @@ ghost use Prim.Native.Nat.{_≤_, _<_};
 ghost use Rattle.wire.specs.Part.{partOf};
 ghost use Rattle.archive.specs.Opening.{archiveOf, openingBy};
 ghost use Rattle.archive.specs.Finding.{noneFound, readingBy, firstIn, findingBy};
-ghost use Rattle.archive.specs.Walking.{Opened};
+ghost use Rattle.archive.specs.Walking.{InForm, Opened};
 use super::form;
 use super::form::Form;
 use super::open;
@@ -42,9 +42,9 @@ fn refuse(v: Verdict) -> Found
     }
 }
 
-// The n-th message of a file that was opened, whose index stands at `index`.
+// The n-th message of a file that was opened in a form, whose index stands at `index`.
 fn nth(file: &[u8], f: Form, index: usize, entries: usize, n: usize) -> Found
-    requires { ⌜ Opened (now file) index entries × (0 < n) × (n ≤ entries) ⌝ }
+    requires { ⌜ Opened (now file) f index entries × (0 < n) × (n ≤ entries) ⌝ }
     ensures { λ r. ⌜ r ≡ readingBy n (archiveOf (now (file .entry))) ⌝ }
 {
     let entry = index + f.entry_size() * (n - 1);
@@ -61,7 +61,7 @@ fn nth(file: &[u8], f: Form, index: usize, entries: usize, n: usize) -> Found
 
 // The number from 1 of the first entry with a Session ID, 0 where none has it or no file was opened.
 fn first_of(file: &[u8], f: Form, o: Opening, session: u16) -> usize
-    requires { ⌜ o ≡ openingBy (archiveOf (now file)) ⌝ }
+    requires { ⌜ (o ≡ openingBy (archiveOf (now file))) × InForm f (archiveOf (now file)) ⌝ }
     ensures { λ r. ⌜ r ≡ firstIn session (archiveOf (now (file .entry))) ⌝ }
 {
     let mut i: usize = 0;

@@ -2,8 +2,8 @@
 -- Assumes nothing.
 use native.Mathlib.Omega.{arith}
 use borrow.Author.Needs.{needs}
-use Rattle.archive.proofs.FormLaws.{limit-is}
-use Rattle.archive.proofs.AddLaws.{full-size, full-entries, full-room, full-limit, entries-few}
+use Rattle.archive.proofs.FormLaws.{size-small}
+use Rattle.archive.proofs.AddLaws.{full-size, full-entries, full-room, full-limit}
 use Rattle.archive.proofs.add.is_full.Statement.{statement}
 use Rattle.archive.proofs.add.is_full.Tie as tie
 
@@ -22,17 +22,17 @@ entry-size-requires c κs = search needs
 mul-whole : tie.Need-mul-whole
 mul-whole c =
     let a = c .before .before .before .before .args in
-    rw (c .entry-size .ensures) (omega (arith, entries-few (a .f) (a .n) (omega arith)))
+    rw (c .entry-size .ensures) (omega (arith, size-small (a .f) (a .size) (a .n) (omega arith) (omega arith)))
 
 add-whole : tie.Need-add-whole
 add-whole c =
     let a = c .before .before .before .before .args in
-    rw (c .entry-size .ensures) (omega (arith, limit-is (a .f), entries-few (a .f) (a .n) (omega arith)))
+    rw (c .entry-size .ensures) (omega (arith, size-small (a .f) (a .size) (a .n) (omega arith) (omega arith)))
 
 add-whole-2 : tie.Need-add-whole-2
 add-whole-2 c =
     let a = c .before .before .before .before .args in
-    rw (c .entry-size .ensures) (omega (arith, limit-is (a .f), entries-few (a .f) (a .n) (omega arith)))
+    rw (c .entry-size .ensures) (omega (arith, size-small (a .f) (a .size) (a .n) (omega arith) (omega arith)))
 
 returns-3 : tie.Need-returns-3
 returns-3 c =

@@ -7,7 +7,7 @@ use native.Mathlib.Omega.{arith}
 use borrow.Author.Needs.{needs}
 use lib.ListN.{length}
 use lib.Seq.{length-sets}
-use Rattle.archive.proofs.FormLaws.{width-is}
+use Rattle.archive.proofs.FormLaws.{width-most}
 use Rattle.archive.proofs.IndexLaws.{Indexing, index-start, index-end, turn-sized, turn-room, index-turn}
 use Rattle.archive.proofs.add.put_index.Statement.{statement}
 use Rattle.archive.proofs.add.put_index.Tie as tie
@@ -46,7 +46,7 @@ write-number-requires c κs =
     let r = c .before .before .before .before in
     let t = r .before .before in (
       omega (arith, turn-room (t .before .loop .inv) (t .loop-test .taken) (r .size-at .ensures)),
-      omega (arith, width-is (t .before .before .before .args .f)),
+      omega (arith, width-most (t .before .before .before .args .f)),
     )
 
 add-write-number : tie.Need-add-write-number Inv-loop μ-loop

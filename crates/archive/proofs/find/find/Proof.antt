@@ -2,6 +2,7 @@
 -- Assumes nothing.
 use mathlib.Core.Path.{_∙_}
 use borrow.Author.Needs.{needs}
+use Rattle.archive.proofs.FindLaws.{in-one}
 use Rattle.archive.proofs.find.find.Statement.{statement}
 use Rattle.archive.proofs.find.find.Tie as tie
 
@@ -9,7 +10,7 @@ open-requires : tie.Need-open-requires
 open-requires c κs = search needs
 
 first-of-requires : tie.Need-first-of-requires
-first-of-requires c κs = search needs
+first-of-requires c κs = (c .open .ensures, in-one _)
 
 shown-requires : tie.Need-shown-requires
 shown-requires c κs = search needs

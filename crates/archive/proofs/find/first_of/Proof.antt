@@ -3,7 +3,7 @@
 use Prim.Native.Nat.{_-_}
 use native.Mathlib.Omega.{arith}
 use borrow.Author.Needs.{needs}
-use Rattle.archive.proofs.FormLaws.{width-is, entry-is, limit-is}
+use Rattle.archive.proofs.FormLaws.{width-most, limit-small}
 use Rattle.archive.proofs.FindLaws.{Seeking, seek-start, seek-end, seek-small, seek-in, seek-hit, seek-on}
 use Rattle.archive.proofs.find.first_of.Statement.{statement}
 use Rattle.archive.proofs.find.first_of.Tie as tie
@@ -20,23 +20,24 @@ offset-width-requires c κs = search needs
 add-at : tie.Need-add-at Inv-loop μ-loop
 add-at c =
     let w = c .before in
-    let k = w .before in
-    let a = k .before .args in
-    omega (arith, w .offset-width .ensures, width-is (a .f), limit-is (a .f), seek-small _ (a .f) _ (k .before .pre))
+    let s = w .before .before in
+    let f = s .args .f in
+    omega (arith, w .offset-width .ensures, width-most f, limit-small f, seek-small _ f _ (s .pre .0) (s .pre .1))
 
 loop-holds : tie.Need-loop-holds Inv-loop μ-loop
 loop-holds c =
     let w = c .before in
-    seek-start _ _ _ (w .before .before .pre) _ _ (w .offset-width .ensures)
+    let p = w .before .before .pre in
+    seek-start _ _ _ (p .0) (p .1) _ _ (w .offset-width .ensures)
 
 two-at-requires : tie.Need-two-at-requires Inv-loop μ-loop
 two-at-requires c κs =
     let l = c .before .before in
     let k = l .before .before .before in
+    let p = k .before .pre in
     omega (
       arith,
-      entry-is (k .before .args .f),
-      seek-in _ _ _ (k .before .pre) _ (λ i. k .shared-slice-known .given i .fits) _ _ (l .loop .inv) (c .if1 .taken),
+      seek-in _ _ _ (p .0) (p .1) _ (λ i. k .shared-slice-known .given i .fits) _ _ (l .loop .inv) (c .if1 .taken),
     )
 
 add-result : tie.Need-add-result Inv-loop μ-loop
@@ -47,7 +48,8 @@ returns c =
     let v = c .before in
     let l = v .before .before .before in
     let k = l .before .before .before in
-    seek-hit _ _ _ (k .before .pre) _ (λ i. k .shared-slice-known .given i .fits) _ _ (l .loop .inv) (v .before .if1 .taken)
+    let p = k .before .pre in
+    seek-hit _ _ _ (p .0) (p .1) _ (λ i. k .shared-slice-known .given i .fits) _ _ (l .loop .inv) (v .before .if1 .taken)
     _ (v .two-at .ensures) (c .if2 .taken)
 
 entry-size-requires : tie.Need-entry-size-requires Inv-loop μ-loop
@@ -58,10 +60,11 @@ add-at-2 c =
     let v = c .before .before in
     let l = v .before .before .before in
     let k = l .before .before .before in
+    let p = k .before .pre in
     omega (
       arith,
       c .entry-size .ensures,
-      seek-in _ _ _ (k .before .pre) _ (λ i. k .shared-slice-known .given i .fits) _ _ (l .loop .inv) (v .before .if1 .taken),
+      seek-in _ _ _ (p .0) (p .1) _ (λ i. k .shared-slice-known .given i .fits) _ _ (l .loop .inv) (v .before .if1 .taken),
     )
 
 add-i : tie.Need-add-i Inv-loop μ-loop
@@ -75,13 +78,15 @@ loop-again c =
     let v = c .before .before in
     let l = v .before .before .before in
     let k = l .before .before .before in
-    seek-on _ _ _ (k .before .pre) _ (λ i. k .shared-slice-known .given i .fits) _ _ (l .loop .inv) (v .before .if1 .taken)
+    let p = k .before .pre in
+    seek-on _ _ _ (p .0) (p .1) _ (λ i. k .shared-slice-known .given i .fits) _ _ (l .loop .inv) (v .before .if1 .taken)
     _ (v .two-at .ensures) (c .before .if2 .left) _ (c .entry-size .ensures)
 
 returns-2 : tie.Need-returns-2 Inv-loop μ-loop
 returns-2 c =
     let l = c .before .before in
-    seek-end _ _ _ (l .before .before .before .before .pre) _ _ _ (l .loop .inv) (c .if1 .left)
+    let p = l .before .before .before .before .pre in
+    seek-end _ _ _ (p .0) (p .1) _ _ _ (l .loop .inv) (c .if1 .left)
 
 pub first-of-spec : {M : Type 1} → statement M
 first-of-spec =

@@ -3,7 +3,7 @@
 use mathlib.Core.Path.{refl}
 use native.Mathlib.Omega.{arith}
 use Rattle.wire.specs.Header.{fieldAt}
-use Rattle.archive.proofs.FormLaws.{width-is}
+use Rattle.archive.proofs.FormLaws.{width-most}
 use Rattle.archive.proofs.FindLaws.{nth-entry, nth-there, nth-is}
 use borrow.Author.Needs.{needs}
 use Rattle.archive.proofs.find.nth.Statement.{statement}
@@ -45,7 +45,7 @@ read-number-requires c κs =
     let p = k .before .pre in (
       nth-entry _ (k .before .args .f) _ _ (p .0) (λ i. k .shared-slice-known .given i .fits) _ (p .1) (p .2)
           _ _ (e .entry-size .ensures) (c .offset-width .ensures),
-      omega (arith, c .offset-width .ensures, width-is (k .before .args .f)),
+      omega (arith, c .offset-width .ensures, width-most (k .before .args .f)),
     )
 
 add-t10 : tie.Need-add-t10

@@ -3,7 +3,7 @@
 use mathlib.Core.Path.{sym, _∙_}
 use native.Mathlib.Omega.{arith}
 use Rattle.archive.specs.declared.form.Form.the-variants.{One}
-use Rattle.archive.proofs.FindLaws.{opened-zero, shown-refused, shown-zero, shown-past}
+use Rattle.archive.proofs.FindLaws.{opened-zero, in-one, shown-refused, shown-zero, shown-past}
 use borrow.Author.Needs.{needs}
 use Rattle.archive.proofs.find.shown.Statement.{statement}
 use Rattle.archive.proofs.find.shown.Tie as tie
@@ -26,7 +26,7 @@ returns-2 : tie.Need-returns-2
 returns-2 c =
     let i = c .before .before in
     let v = i .before in
-    let o = opened-zero _ _ (v .before .before .pre) (sym (v .number .ensures) ∙ i .if1 .left) in
+    let o = opened-zero _ _ (v .before .before .pre) One (in-one _) (sym (v .number .ensures) ∙ i .if1 .left) in
     c .refuse2 .ensures ∙ shown-zero _ One _ _ o _ (c .before .if2 .taken)
 
 refuse-requires-3 : tie.Need-refuse-requires-3
@@ -36,14 +36,14 @@ returns-3 : tie.Need-returns-3
 returns-3 c =
     let i = c .before .before .before .before in
     let v = i .before in
-    let o = opened-zero _ _ (v .before .before .pre) (sym (v .number .ensures) ∙ i .if1 .left) in
+    let o = opened-zero _ _ (v .before .before .pre) One (in-one _) (sym (v .number .ensures) ∙ i .if1 .left) in
     c .refuse3 .ensures ∙ shown-past _ One _ _ o _ (c .before .if3 .taken)
 
 nth-requires : tie.Need-nth-requires
 nth-requires c κs =
     let i = c .before .before .before in
     let v = i .before in
-    (opened-zero _ _ (v .before .before .pre) (sym (v .number .ensures) ∙ i .if1 .left), omega arith, omega arith)
+    (opened-zero _ _ (v .before .before .pre) One (in-one _) (sym (v .number .ensures) ∙ i .if1 .left), omega arith, omega arith)
 
 returns-4 : tie.Need-returns-4
 returns-4 c = search needs

@@ -3,7 +3,7 @@
 use native.Mathlib.Omega.{arith}
 use borrow.Author.Needs.{needs}
 use Rattle.wire.specs.Header.{fieldAt}
-use Rattle.archive.proofs.FormLaws.{width-is}
+use Rattle.archive.proofs.FormLaws.{width-most}
 use Rattle.archive.proofs.OpenLaws.{entry-other, entry-two}
 use Rattle.archive.proofs.open.entry_agrees.Statement.{statement}
 use Rattle.archive.proofs.open.entry_agrees.Tie as tie
@@ -12,7 +12,7 @@ offset-width-requires : tie.Need-offset-width-requires
 offset-width-requires c κs = search needs
 
 read-number-requires : tie.Need-read-number-requires
-read-number-requires c κs = omega (arith, width-is (c .before .before .args .f))
+read-number-requires c κs = omega (arith, width-most (c .before .before .args .f))
 
 returns : tie.Need-returns
 unfolding fieldAt

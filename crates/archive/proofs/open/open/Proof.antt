@@ -1,14 +1,20 @@
 -- `archive::open::open` meets its contract: each return is the law of its case.
 -- Assumes nothing.
-use mathlib.Core.Path.{_≡_, _∙_}
-use Prim.Native.Nat.{_*_}
+use mathlib.Core.Path.{_≡_, sym, _∙_}
+use Prim.Native.Nat.{ℕ, _*_}
 use native.Mathlib.Omega.{arith}
 use borrow.Author.Needs.{needs}
 use Rattle.wire.specs.Header.{fieldAt}
+use Rattle.archive.specs.declared.form.Form.{Form}
 use Rattle.archive.specs.declared.form.Form.the-variants.{One}
+use Rattle.archive.specs.Form.{formNumber}
 use Rattle.archive.proofs.OpenLaws.{open-short, open-other, open-large, open-past, open-trailed, open-checked}
 use Rattle.archive.proofs.open.open.Statement.{statement}
 use Rattle.archive.proofs.open.open.Tie as tie
+
+-- a number that is not the one form's is no form's
+no-other : (v : ℕ) → (v ≡ formNumber One → ⊥) → (f : Form) → v ≡ formNumber f → ⊥
+no-other v other One = other
 
 refuse-requires : tie.Need-refuse-requires
 refuse-requires c κs = search needs
@@ -38,7 +44,9 @@ returns-2 : tie.Need-returns-2
 returns-2 c =
     let f = c .before .before in
     let v = f .before in
-    c .refuse2 .ensures ∙ open-other _ (v .before .if1 .left) One _ _ (v .two-at .ensures) (f .number .ensures) (c .before .if2 .taken)
+    c .refuse2 .ensures
+    ∙ open-other _ (v .before .if1 .left) _ (v .two-at .ensures)
+    (no-other _ (λ q. c .before .if2 .taken (q ∙ sym (f .number .ensures))))
 
 limit-requires : tie.Need-limit-requires
 limit-requires c κs = search needs
@@ -53,8 +61,8 @@ returns-3 c =
     let f = i .before in
     let v = f .before in
     c .refuse3 .ensures
-    ∙ open-large _ (v .before .if1 .left) One _ _ (v .two-at .ensures) (f .number .ensures)
-    (i .if2 .left) _ (l .limit .ensures) (c .before .if3 .taken)
+    ∙ open-large _ (v .before .if1 .left) _ (v .two-at .ensures) One
+    (i .if2 .left ∙ f .number .ensures) _ (l .limit .ensures) (c .before .if3 .taken)
 
 read-number-requires : tie.Need-read-number-requires
 read-number-requires c κs = search needs
@@ -95,8 +103,8 @@ returns-4 c =
     let f = i .before in
     let v = f .before in
     c .refuse4 .ensures
-    ∙ open-past _ (v .before .if1 .left) One _ _ (v .two-at .ensures) (f .number .ensures)
-    (i .if2 .left) _ (l .limit .ensures) (j .if3 .left) _ _ _ (a .read-number .ensures .0)
+    ∙ open-past _ (v .before .if1 .left) _ (v .two-at .ensures) One
+    (i .if2 .left ∙ f .number .ensures) _ (l .limit .ensures) (j .if3 .left) _ _ _ (a .read-number .ensures .0)
     (n .two-at2 .ensures) (c .before .before .entry-size .ensures) (c .before .if4 .taken)
 
 checked-requires : tie.Need-checked-requires
@@ -109,8 +117,8 @@ checked-requires c κs =
     let i = l .before in
     let f = i .before in
     let v = f .before in
-    open-trailed _ (v .before .if1 .left) One _ _ (v .two-at .ensures) (f .number .ensures)
-    (i .if2 .left) _ (l .limit .ensures) (j .if3 .left) _ _ _ (a .read-number .ensures .0)
+    open-trailed _ (v .before .if1 .left) _ (v .two-at .ensures) One
+    (i .if2 .left ∙ f .number .ensures) _ (l .limit .ensures) (j .if3 .left) _ _ _ (a .read-number .ensures .0)
     (n .two-at2 .ensures) (c .before .entry-size .ensures) (c .if4 .left)
 
 returns-5 : tie.Need-returns-5
@@ -123,8 +131,8 @@ returns-5 c =
     let i = l .before in
     let f = i .before in
     let v = f .before in
-    open-checked _ (v .before .if1 .left) One _ _ (v .two-at .ensures) (f .number .ensures)
-    (i .if2 .left) _ (l .limit .ensures) (j .if3 .left) _ _ _ (a .read-number .ensures .0)
+    open-checked _ (v .before .if1 .left) _ (v .two-at .ensures) One
+    (i .if2 .left ∙ f .number .ensures) _ (l .limit .ensures) (j .if3 .left) _ _ _ (a .read-number .ensures .0)
     (n .two-at2 .ensures) (c .before .before .entry-size .ensures) (c .before .if4 .left) _ (c .checked .ensures)
 
 pub open-spec : {M : Type 1} → statement M
