@@ -7,8 +7,8 @@ use mathlib.Core.Bool.{Bool, true, false}
 use mathlib.Core.Logic.{inl, inr}
 use mathlib.Core.Option.{Option, none, some, Option·none-ne-some}
 use mathlib.Core.List.{List}
-use lib.ListN.{length, take}
-use lib.Dec.{leb, ltb}
+use lib.ListN.{length}
+use lib.Dec.{ltb}
 use borrow.Author.Tests.{ltb-true, ltb-false}
 use Rattle.wire.specs.Choose.{pick, or}
 use Rattle.archive.specs.declared.verdict.Verdict.{Verdict}
@@ -16,7 +16,7 @@ use Rattle.archive.specs.declared.verdict.Verdict.the-variants.{Accepted
 use Rattle.archive.specs.declared.form.Form.{Form}
 use Rattle.archive.specs.declared.form.Form.the-variants.{One}
 use Rattle.archive.specs.Form.{formOf, limit, written, AreMessages, fileOf}
-use Rattle.archive.specs.Records.{messagesIn, messagesTo}
+use Rattle.archive.specs.Records.{messagesTo}
 use Rattle.archive.specs.Opening.{
   trailerAt,
   indexAt,
@@ -34,8 +34,9 @@ use Rattle.archive.specs.Opening.{
 }
 use Rattle.archive.specs.Promises.{AcceptedExactly, NoTrailer, OpenedWhen, OpenVerdicts, OpenLaw, OpenAnswers}
 use Rattle.archive.proofs.FormLaws.{form-of, form-back, one-form}
-use Rattle.archive.proofs.OpenLaws.{same-is, file-form}
-use Rattle.archive.proofs.FileLaws.{file-holds, cut-messages}
+use Rattle.archive.proofs.LeftLaws.{told-messages}
+use Rattle.archive.proofs.SameLaws.{same-is}
+use Rattle.archive.proofs.FileLaws.{file-form, file-holds}
 
 -- the three outcomes
 data Opens (file : List ℕ) : Archive → Type 0 where
@@ -44,14 +45,6 @@ data Opens (file : List ℕ) : Archive → Type 0 where
       → Opens file (refused Records)
   opened : (NoTrailer file → ⊥) → (f : Form) (ms : List (List ℕ)) → file ≡ fileOf f ms → AreMessages ms → length file ≤ limit f
       → Opens file (holds f ms)
-
-to-messages : (file : List ℕ) (size : ℕ) (ms : List (List ℕ)) → messagesTo file size ≡ some ms → AreMessages ms
-unfolding messagesTo
-to-messages file size ms e = go (leb size (length file)) e
-  where
-    go : (b : Bool) → pick b (messagesIn (take size file)) none ≡ some ms → AreMessages ms
-    go true q = cut-messages (length (take size file)) (take size file) ms q
-    go false q = absurd (Option·none-ne-some ms q)
 
 module _ (file : List ℕ) where
   -- the last test of 51, and what is left then
@@ -88,7 +81,7 @@ module _ (file : List ℕ) where
 
         go : (r : Option (List (List ℕ))) → found ≡ r → archiveOf file ≡ checked file f r → Opens file (checked file f r)
         go none er e = no-records has (of-none e)
-        go (some ms) er e = by ms (to-messages file (indexAt file) ms er) (same file (fileOf f ms)) refl e
+        go (some ms) er e = by ms (told-messages file (indexAt file) ms er) (same file (fileOf f ms)) refl e
 
   opens : Opens file (archiveOf file)
   unfolding archiveOf outgrows

@@ -6,8 +6,8 @@ use mathlib.Core.Option.{none, some}
 use mathlib.Core.List.{List}
 use Prim.Native.Nat.{ℕ, suc, _+_, _*_, _≤_, _<_}
 use native.Mathlib.Omega.{arith}
-use lib.ListN.{length, take}
-use lib.Seq.{sets, take-all, length-take-le, length-sets}
+use lib.ListN.{length}
+use lib.Seq.{sets, take-all, length-sets}
 use lib.Dec.{ltb}
 use borrow.Author.Tests.{lt-ltb, le-ltb, ltb-false}
 use Rattle.wire.specs.Choose.{pick, or}
@@ -40,17 +40,7 @@ use Rattle.archive.specs.Adding.{Outcome, refused, stores, isFull, addin
 use Rattle.archive.specs.Walking.{walkedFrom, isWhole, listed}
 use Rattle.archive.proofs.FormLaws.{entries-long}
 use Rattle.archive.proofs.RecordLaws.{length-record, length-index, length-closing}
-use Rattle.archive.proofs.LeftLaws.{
-  whole-some,
-  whole-none,
-  walked-whole,
-  walked-count,
-  few-cut,
-  whole-within,
-  from-start,
-  told-size,
-  cut-records,
-}
+use Rattle.archive.proofs.LeftLaws.{walked-none, walked-some, walked-count, told-size, told-few, cut-records}
 
 -- ---- 50
 
@@ -127,7 +117,7 @@ module _ (old : List ℕ) (told : ℕ) (w : Walked) (we : w ≡ walkedFrom 0 (me
   -- 52
   module _ (wh : w .whole ≡ false) where
     not-found : messagesTo old told ≡ none
-    not-found = whole-none (messagesTo old told) (sym (walked-whole (messagesTo old told)) ∙ ap (λ x. x .whole) (sym we) ∙ wh)
+    not-found = walked-none (messagesTo old told) w we wh
 
     pub add-records : (m : List ℕ) → adding old told m ≡ refused Records
     unfolding adding
@@ -138,24 +128,15 @@ module _ (old : List ℕ) (told : ℕ) (w : Walked) (we : w ≡ walkedFrom 0 (me
     close-records = rw not-found
 
   module _ (wh : w .whole ≡ true) where
-    found-whole : isWhole (messagesTo old told) ≡ true
-    found-whole = sym (walked-whole (messagesTo old told)) ∙ ap (λ x. x .whole) (sym we) ∙ wh
-
     found-is : messagesTo old told ≡ some found
-    found-is = whole-some (messagesTo old told) found-whole
+    found-is = walked-some (messagesTo old told) w we wh
 
     count-is : w .count ≡ length found
-    count-is = ap (λ x. x .count) we ∙ walked-count (messagesTo old told)
-
-    inside : told ≤ length old
-    inside = whole-within old told found-whole
-
-    long : length (take told old) ≡ told
-    long = length-take-le told old inside
+    count-is = walked-count (messagesTo old told) w we
 
     -- so few that one more is no wrap
     pub count-few : w .count ≤ told
-    count-few = omega (arith, count-is, long, (rw (← from-start old told inside) at (few-cut (length (take told old)) (take told old))))
+    count-few = omega (arith, count-is, told-few old told found found-is)
 
     -- 53
     pub add-no-message : (m : List ℕ) → messageFits m ≡ false → adding old told m ≡ refused NoMessage
@@ -191,10 +172,10 @@ module _ (old : List ℕ) (told : ℕ) (w : Walked) (we : w ≡ walkedFrom 0 (me
 
     pub index-room : isFull written (length old) told (w .count) ≡ false
         → (isWhole (messagesTo old told) ≡ true) × (told + entrySize written * length found ≤ length old)
-    index-room h = (found-whole, omega (arith, count-is, not-full written (length old) told (w .count) h))
+    index-room h = (rw found-is, omega (arith, count-is, not-full written (length old) told (w .count) h))
 
     records-size : AreBytes old → length (recordsBytes found) ≡ told
-    records-size b = told-size old told found (cut-records old told found b found-is)
+    records-size b = told-size old told found (cut-records old told found found-is b)
 
     module _ {e : ℕ} (ee : e ≡ entrySize written) where
       pub closing-stores : AreBytes old → {l1 l2 : List ℕ} → l1 ≡ sets old told (indexBytes written 0 found)

@@ -18,13 +18,12 @@ use Rattle.archive.specs.Added.{Added, addAll}
 use Rattle.archive.specs.Opening.{holds, archiveOf, openingBy}
 use Rattle.archive.specs.Finding.{messageAt, readingBy}
 use Rattle.archive.specs.Promises.{RecordsTo, Fits, AddedLaw, AddedOpens, AddedMore, OpenedMore, ClosedAgain}
-use Rattle.archive.proofs.RecordLaws.{length-record, length-file}
-use Rattle.archive.proofs.ListLaws.{records-append, messages-append}
+use Rattle.archive.proofs.RecordLaws.{length-record, length-file, records-append, messages-append}
+use Rattle.archive.proofs.LeftLaws.{told-size}
 use Rattle.archive.proofs.FileLaws.{records-in}
 use Rattle.archive.proofs.AcceptLaws.{held-is, is-held, open-verdicts}
-use Rattle.archive.proofs.LeftLaws.{told-size}
-use Rattle.archive.proofs.KeepLaws.{add-stores, close-stores, add-writes, add-changes, close-writes}
 use Rattle.archive.proofs.ShowLaws.{reads-nth}
+use Rattle.archive.proofs.KeepLaws.{add-stores, close-stores, add-writes, add-changes, close-writes}
 
 kept-is : (k : Kept) (v : Verdict) (n : ℕ) → k .verdict ≡ v → k .size ≡ n → k ≡ record { verdict = v; size = n }
 kept-is k v n e d = rw (← e, ← d)
@@ -175,7 +174,7 @@ module _ (file : List ℕ) (told : ℕ) (old ms : List (List ℕ)) (r : RecordsT
       let back : suc i - 1 ≡ i = omega arith in
       rw back at (law .shows (law .given .1 (omega arith, omega arith)) .1)
 
-  pub added-law : AddedLaw file told old ms
+  added-law : AddedLaw file told old ms
   added-law = record {
     all-accepted = added-all .verdicts-are;
     records-size = sym (told-size (a .file) (a .size) all (added-all .after .whole));

@@ -1,7 +1,7 @@
--- Messages and the trailer, by byte number.
+-- Messages, the trailer and accepted files, by byte number.
 -- Assumes nothing.
 use mathlib.Core.Path.{_≡_, sym, _∙_}
-use Prim.Native.Nat.{ℕ, suc, _+_, _-_, _≤_}
+use Prim.Native.Nat.{ℕ, suc, _+_, _-_, _*_, _≤_, _<_}
 use native.Mathlib.Omega.{arith}
 use native.Mathlib.Numerals.{add-one}
 use mathlib.Core.Bool.{true}
@@ -9,15 +9,20 @@ use mathlib.Core.List.{List}
 use lib.ListN.{length}
 use lib.Dec.{leb}
 use borrow.Author.Tests.{le-leb, eq-eqb, eqb-true}
+use Rattle.wire.specs.Number.{AreBytes}
 use Rattle.wire.specs.Header.{fieldAt, lengthOf, sessionAt}
 use Rattle.wire.proofs.ChooseLaws.{and-right}
 use Rattle.wire.proofs.FieldLaws.{two-field, four-field}
-use Rattle.archive.specs.Form.{messageFits, messageMost}
-use Rattle.archive.specs.Promises.{two, four, MessageExactly, SessionByByte, TrailerByByte}
-use Rattle.archive.proofs.RecordLaws.{message-least, message-most}
+use Rattle.archive.specs.Form.{limit, written, messageFits, messageMost, AreMessages, recordsBytes, fileOf}
+use Rattle.archive.specs.Finding.{offsetAt}
+use Rattle.archive.specs.Promises.{two, four, MessageExactly, SessionByByte, TrailerByByte, PlaceLaw, HeldByByte}
+use Rattle.archive.proofs.RecordLaws.{length-file, message-least, message-most}
+use Rattle.archive.proofs.FileLaws.{file-index, file-entries}
+use Rattle.archive.proofs.PlaceLaws.{record-there, message-slice, file-length, file-offset, file-session}
+use Rattle.archive.proofs.AcceptLaws.{held-is}
 
 module _ (at : ℕ) (d : List ℕ) where
-  pub field-two : at + 2 ≤ length d → fieldAt at 2 d ≡ two d at
+  field-two : at + 2 ≤ length d → fieldAt at 2 d ≡ two d at
   field-two h = two-field at d h ∙ rw (add-one at)
 
   field-four : at + 4 ≤ length d → fieldAt at 4 d ≡ four d at
@@ -56,3 +61,32 @@ trailer-by-byte file h =
       entries-are = rw four-on (field-two (length file - 4) file (omega arith));
       form-is = rw six-on (field-two (length file - 2) file (omega arith));
     }
+
+-- ---- an accepted file by byte number
+
+place-law : (ms : List (List ℕ)) → AreMessages ms → AreBytes (fileOf written ms) → length (fileOf written ms) ≤ limit written
+    → (i : ℕ) → i < length ms → PlaceLaw (fileOf written ms) ms i
+place-law ms a b few i h =
+    let at = length (recordsBytes ms) in
+    let entry : at + 4 * i + 4 ≤ length (fileOf written ms) = omega (arith, length-file written ms) in
+    record {
+      record-length = sym (field-two (offsetAt ms i) (fileOf written ms) (omega (arith, record-there written ms i h)))
+          ∙ file-length written ms i h a;
+      record-message = message-slice written ms i h;
+      entry-offset =
+          rw (file-index written ms few)
+          (sym (field-two (at + 4 * i) (fileOf written ms) (omega arith)) ∙ file-offset written ms i h a b few);
+      entry-session =
+          rw (file-index written ms few)
+          (sym (field-two (at + 4 * i + 2) (fileOf written ms) (omega arith)) ∙ file-session written ms i h a b few);
+    }
+
+pub held-by-byte : HeldByByte
+held-by-byte file ms b e =
+    let (is, are, few) = held-is file written ms e in
+    rw is
+    (record {
+      index-at = file-index written ms (rw (← is) few);
+      entries-are = file-entries written ms (rw (← is) few) are;
+      places = place-law ms are (rw (← is) b) (rw (← is) few);
+    })

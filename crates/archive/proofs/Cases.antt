@@ -13,7 +13,8 @@ use Rattle.archive.specs.Finding.{firstOf}
 use Rattle.archive.specs.Cases.{messageA, messageB, messageC, threeFile, ThreeHold, addCases, openCases, CasesHold}
 
 three-hold : ThreeHold
-unfolding numberOf numberBytes fieldAt partOf messageFits recordBytes recordsBytes entryBytes indexBytes trailerBytes closingBytes fileOf recordFits cutAll messagesTo isFull adding closing addAll same outgrows archiveOf firstOf messageA messageB messageC threeFile
+unfolding numberOf numberBytes fieldAt partOf messageFits recordBytes recordsBytes entryBytes indexBytes trailerBytes closingBytes fileOf
+    recordFits cutAll messagesTo isFull adding closing addAll same outgrows archiveOf firstOf messageA messageB messageC threeFile
 three-hold = record {
   added = refl;
   closed = (refl, refl);
@@ -26,7 +27,8 @@ three-hold = record {
 }
 
 pub cases-hold : CasesHold
-unfolding numberOf numberBytes fieldAt messageFits recordBytes recordsBytes entryBytes indexBytes trailerBytes closingBytes fileOf recordFits cutAll messagesTo isFull adding closing same outgrows archiveOf firstOf messageA addCases openCases
+unfolding numberOf numberBytes fieldAt messageFits recordBytes recordsBytes entryBytes indexBytes trailerBytes closingBytes fileOf
+    recordFits cutAll messagesTo isFull adding closing same outgrows archiveOf firstOf messageA addCases openCases
 cases-hold = record {
   three-hold = three-hold;
   adds-hold = refl;

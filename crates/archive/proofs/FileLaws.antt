@@ -1,24 +1,84 @@
--- A file of messages holds them; what is cut into messages is messages.
+-- The file of messages: what its trailer says, and that it holds them.
 -- Assumes nothing.
-use mathlib.Core.Path.{_≡_, refl, subst}
-use Prim.Native.Nat.{ℕ, zero, suc, _+_, _*_, _≤_}
+use mathlib.Core.Path.{_≡_, refl, sym, _∙_}
+use mathlib.Core.List.{List, _++_, append-assoc}
+use Prim.Native.Nat.{ℕ, _+_, _*_, _^_, _≤_, _<_}
 use native.Mathlib.Omega.{arith}
-use mathlib.Core.Bool.{Bool, true, false}
-use mathlib.Core.Option.{Option, none, some, Option·none-ne-some, Option·some-injective}
-use mathlib.Core.List.{List, [], _∷_}
-use lib.ListN.{length, take, drop}
+use lib.ListN.{length, take, length-append}
 use lib.Seq.{take-at}
-use lib.Dec.{leb}
 use borrow.Author.Tests.{le-ltb, le-leb}
-use Rattle.wire.specs.Choose.{pick}
-use Rattle.wire.proofs.ChooseLaws.{and-right}
+use Rattle.wire.specs.Number.{numberBytes}
+use Rattle.wire.specs.Header.{fieldAt}
+use Rattle.wire.proofs.NumberLaws.{number-back}
 use Rattle.archive.specs.declared.form.Form.{Form}
-use Rattle.archive.specs.Form.{entrySize, limit, AreMessages, recordsBytes, trailerLen, closingBytes, fileOf}
-use Rattle.archive.specs.Records.{messageIn, lengthIn, recordFits, before, cutAll, messagesTo}
-use Rattle.archive.specs.Opening.{trailerAt, holds, outgrows, archiveOf}
-use Rattle.archive.proofs.FormLaws.{form-of}
-use Rattle.archive.proofs.RecordLaws.{length-file, cut-back}
-use Rattle.archive.proofs.OpenLaws.{is-same, file-form, file-index, file-entries}
+use Rattle.archive.specs.Form.{
+  formNumber,
+  entrySize,
+  limit,
+  AreMessages,
+  recordsBytes,
+  indexBytes,
+  trailerLen,
+  trailerBytes,
+  closingBytes,
+  fileOf,
+}
+use Rattle.archive.specs.Records.{messagesTo}
+use Rattle.archive.specs.Opening.{trailerAt, indexAt, entriesIn, formIn, holds, outgrows, archiveOf}
+use Rattle.archive.proofs.ListLaws.{field-behind}
+use Rattle.archive.proofs.FormLaws.{number-fits, limit-small, entries-fit, form-of}
+use Rattle.archive.proofs.RecordLaws.{length-index, length-file, records-least, cut-back}
+use Rattle.archive.proofs.SameLaws.{is-same}
+
+-- ---- the trailer's fields
+
+module _ (f : Form) (at n : ℕ) where
+  trailer-index : at < 256 ^ 4 → fieldAt 0 4 (trailerBytes f at n) ≡ at
+  unfolding fieldAt trailerBytes numberBytes
+  trailer-index h = number-back 4 at h
+
+  trailer-entries : n < 256 ^ 2 → fieldAt 4 2 (trailerBytes f at n) ≡ n
+  unfolding fieldAt trailerBytes numberBytes
+  trailer-entries h = number-back 2 n h
+
+  trailer-form : fieldAt 6 2 (trailerBytes f at n) ≡ formNumber f
+  unfolding fieldAt trailerBytes numberBytes
+  trailer-form = number-back 2 (formNumber f) (number-fits f)
+
+-- a file of messages under its form's limit says so in its trailer
+module _ (f : Form) (ms : List (List ℕ)) where
+  abbrev front : List ℕ
+  front = recordsBytes ms ++ indexBytes f 0 ms
+
+  abbrev last : List ℕ
+  last = trailerBytes f (length (recordsBytes ms)) (length ms)
+
+  file-is : fileOf f ms ≡ front ++ last
+  unfolding fileOf closingBytes
+  file-is = sym (append-assoc (recordsBytes ms) (indexBytes f 0 ms) last)
+
+  front-long : length front ≡ trailerAt (fileOf f ms)
+  front-long = omega (arith, length-file f ms, length-append (recordsBytes ms) (indexBytes f 0 ms), length-index f 0 ms)
+
+  trailer-field : (k w : ℕ) → fieldAt (trailerAt (fileOf f ms) + k) w (fileOf f ms) ≡ fieldAt k w last
+  trailer-field k w = rw (← front-long, file-is) (field-behind front last k w)
+
+  pub file-form : formIn (fileOf f ms) ≡ formNumber f
+  file-form = trailer-field 6 2 ∙ trailer-form f (length (recordsBytes ms)) (length ms)
+
+  module _ (small : length (fileOf f ms) ≤ limit f) where
+    pub file-index : indexAt (fileOf f ms) ≡ length (recordsBytes ms)
+    file-index =
+        let e : trailerAt (fileOf f ms) + 0 ≡ trailerAt (fileOf f ms) = omega arith in
+        rw e at (trailer-field 0 4)
+        ∙ trailer-index f (length (recordsBytes ms)) (length ms) (omega (arith, length-file f ms, limit-small f))
+
+    pub file-entries : AreMessages ms → entriesIn (fileOf f ms) ≡ length ms
+    file-entries are =
+        let few = entries-fit f (length (recordsBytes ms)) (length ms) (records-least ms are) (rw (← length-file f ms) small) in
+        trailer-field 4 2 ∙ trailer-entries f (length (recordsBytes ms)) (length ms) few
+
+-- ---- it holds the messages
 
 pub records-in : (f : Form) (ms : List (List ℕ)) → take (length (recordsBytes ms)) (fileOf f ms) ≡ recordsBytes ms
 unfolding fileOf
@@ -41,21 +101,3 @@ file-holds f ms are few =
       cut-back ms are,
       is-same (fileOf f ms),
     )
-
--- what is cut are messages
-pub cut-messages : (turns : ℕ) (bytes : List ℕ) (ms : List (List ℕ)) → cutAll turns bytes ≡ some ms → AreMessages ms
-unfolding cutAll recordFits
-cut-messages zero [] ms e = subst AreMessages (Option·some-injective [] ms e) tt
-cut-messages zero (x ∷ xs) ms e = absurd (Option·none-ne-some ms e)
-cut-messages (suc turns) [] ms e = subst AreMessages (Option·some-injective [] ms e) tt
-cut-messages (suc turns) (x ∷ xs) ms e = go (recordFits (x ∷ xs)) (cutAll turns rest) refl (cut-messages turns rest) e
-  where
-    rest : List ℕ
-    rest = drop (2 + lengthIn (x ∷ xs)) (x ∷ xs)
-
-    go : (c : Bool) (r : Option (List (List ℕ))) → recordFits (x ∷ xs) ≡ c → ((more : List (List ℕ)) → r ≡ some more → AreMessages more)
-        → pick c (before (messageIn (x ∷ xs)) r) none ≡ some ms → AreMessages ms
-    go false r ec ih q = absurd (Option·none-ne-some ms q)
-    go true none ec ih q = absurd (Option·none-ne-some ms q)
-    go true (some more) ec ih q =
-        subst AreMessages (Option·some-injective _ ms q) (and-right (leb (2 + lengthIn (x ∷ xs)) (length (x ∷ xs))) _ ec, ih more refl)

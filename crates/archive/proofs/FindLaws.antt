@@ -1,167 +1,34 @@
--- Where an opened file has its entries and records, and reading and finding in it, as the code goes.
+-- Reading and finding in a file that was opened, as the code goes.
 -- Assumes nothing.
 use mathlib.Core.Path.{_≡_, refl, sym, ap, subst, _∙_}
 use mathlib.Core.Bool.{Bool, true, false}
-use mathlib.Core.List.{List, [], _∷_, _++_, append-assoc}
-use Prim.Native.Nat.{ℕ, zero, suc, _+_, _-_, _*_, _^_, _≤_, _<_}
+use mathlib.Core.List.{List, []}
+use Prim.Native.Nat.{ℕ, zero, suc, _+_, _-_, _*_, _≤_, _<_}
 use native.Mathlib.Nat.{mul-suc, mul-le-mul-left}
 use native.Mathlib.Omega.{arith}
-use lib.ListN.{length, take, drop, length-append, drop-of-length-le}
-use lib.Seq.{take-at, drop-cons}
+use lib.ListN.{length, drop, drop-of-length-le}
+use lib.Seq.{drop-cons}
 use lib.Dec.{eqb}
 use borrow.Author.Tests.{lt-ltb, le-ltb, eq-eqb, ne-eqb}
 use Rattle.wire.specs.Choose.{pick}
-use Rattle.wire.specs.Number.{AreBytes, big, numberBytes}
+use Rattle.wire.specs.Number.{AreBytes}
 use Rattle.wire.specs.Part.{part}
-use Rattle.wire.specs.Header.{fieldAt, sessionAt, sessionOf}
-use Rattle.wire.proofs.NumberLaws.{bytes-left, bytes-right, number-back, length-numberBytes, read-below}
+use Rattle.wire.specs.Header.{fieldAt, sessionOf}
 use Rattle.archive.specs.declared.verdict.Verdict.{Verdict}
 use Rattle.archive.specs.declared.verdict.Verdict.the-variants.{Accepted, NoRecord}
 use Rattle.archive.specs.declared.form.Form.{Form}
 use Rattle.archive.specs.declared.form.Form.the-variants.{One}
 use Rattle.archive.specs.declared.open.Opening.{Opening}
 use Rattle.archive.specs.Verdict.{verdictNumber}
-use Rattle.archive.specs.Form.{
-  offsetWidth,
-  entrySize,
-  limit,
-  messageFits,
-  AreMessages,
-  recordBytes,
-  recordSize,
-  recordsBytes,
-  entryBytes,
-  indexBytes,
-  trailerBytes,
-  closingBytes,
-  fileOf,
-}
+use Rattle.archive.specs.Form.{offsetWidth, entrySize, limit, AreMessages, fileOf}
 use Rattle.archive.specs.Opening.{Archive, refused, holds, archiveOf, openingBy}
 use Rattle.archive.specs.Finding.{messageAt, offsetAt, noneFound, readingBy, counted, firstOf, firstIn}
 use Rattle.archive.specs.Walking.{InForm, not-opened, opened, Opened}
-use Rattle.archive.proofs.FormLaws.{limit-fits, width-most, one-form}
-use Rattle.archive.proofs.RecordLaws.{length-record, length-entry, length-file, message-least, message-most}
-use Rattle.archive.proofs.OpenLaws.{field-behind, field-before}
+use Rattle.archive.proofs.FormLaws.{width-most, one-form}
 use Rattle.archive.proofs.VerdictLaws.{verdict-one}
+use Rattle.archive.proofs.RecordLaws.{length-file}
+use Rattle.archive.proofs.PlaceLaws.{record-there, file-length, file-offset, file-session}
 use Rattle.archive.proofs.AcceptLaws.{held-is, refused-other}
-
--- ---- an index entry's fields
-
-module _ (f : Form) (at : ℕ) (m : List ℕ) where
-  entry-offset : at < 256 ^ offsetWidth f → fieldAt 0 (offsetWidth f) (entryBytes f at m) ≡ at
-  unfolding entryBytes fieldAt
-  entry-offset h =
-      let w = offsetWidth f in
-      let e : 0 + w ≡ w = omega arith in
-      rw (e, take-at (numberBytes big w at) (numberBytes big 2 (sessionOf m)) w (length-numberBytes w at)) (number-back w at h)
-
-  session-first : sessionOf m < 256 ^ 2 → fieldAt 0 2 (numberBytes big 2 (sessionOf m)) ≡ sessionOf m
-  unfolding fieldAt numberBytes
-  session-first h = number-back 2 (sessionOf m) h
-
-  entry-session : sessionOf m < 256 ^ 2 → fieldAt (offsetWidth f) 2 (entryBytes f at m) ≡ sessionOf m
-  unfolding entryBytes
-  entry-session h =
-      let w = offsetWidth f in
-      let e : length (numberBytes big w at) + 0 ≡ w = omega (arith, length-numberBytes w at) in
-      rw e at (field-behind (numberBytes big w at) (numberBytes big 2 (sessionOf m)) 0 2) ∙ session-first h
-
--- the entry that i entries precede, where the first record stands at `at`
-index-field : (f : Form) (at : ℕ) (ms : List (List ℕ)) (rest : List ℕ) (i k w : ℕ) → i < length ms → k + w ≤ entrySize f
-    → fieldAt (entrySize f * i + k) w (indexBytes f at ms ++ rest) ≡ fieldAt k w (entryBytes f (at + offsetAt ms i) (messageAt ms i))
-unfolding indexBytes recordsBytes
-index-field f at [] rest i k w h l = absurd (omega arith)
-index-field f at (m ∷ ms) rest zero k w h l =
-    let e : entrySize f * 0 + k ≡ k = omega arith in
-    let z : at + 0 ≡ at = omega arith in
-    rw (e, z, append-assoc (entryBytes f at m) (indexBytes f (at + recordSize m) ms) rest)
-    (field-before (entryBytes f at m) (indexBytes f (at + recordSize m) ms ++ rest) k w (omega (arith, length-entry f at m)))
-index-field f at (m ∷ ms) rest (suc i) k w h l =
-    let e : entrySize f * suc i + k ≡ length (entryBytes f at m) + (entrySize f * i + k) = omega (arith, length-entry f at m) in
-    let z : at + length (recordBytes m ++ recordsBytes (take i ms)) ≡ at + recordSize m + offsetAt ms i =
-    omega (arith, length-append (recordBytes m) (recordsBytes (take i ms)), length-record m) in
-    rw (e, z, append-assoc (entryBytes f at m) (indexBytes f (at + recordSize m) ms) rest)
-    (field-behind (entryBytes f at m) (indexBytes f (at + recordSize m) ms ++ rest) (entrySize f * i + k) w
-    ∙ index-field f (at + recordSize m) ms rest i k w (omega arith) l)
-
--- ---- a record's place
-
-message-fits : (ms : List (List ℕ)) (i : ℕ) → AreMessages ms → i < length ms → messageFits (messageAt ms i) ≡ true
-message-fits [] i a h = absurd (omega arith)
-message-fits (m ∷ ms) zero a h = a .0
-message-fits (m ∷ ms) (suc i) a h = message-fits ms i (a .1) (omega arith)
-
-message-bytes : (ms : List (List ℕ)) (i : ℕ) → AreBytes (recordsBytes ms) → i < length ms → AreBytes (messageAt ms i)
-unfolding recordsBytes recordBytes
-message-bytes [] i b h = absurd (omega arith)
-message-bytes (m ∷ ms) zero b h = bytes-right (numberBytes big 2 (length m)) m (bytes-left (recordBytes m) (recordsBytes ms) b)
-message-bytes (m ∷ ms) (suc i) b h = message-bytes ms i (bytes-right (recordBytes m) (recordsBytes ms) b) (omega arith)
-
-record-in : (ms : List (List ℕ)) (i : ℕ) → i < length ms → offsetAt ms i + recordSize (messageAt ms i) ≤ length (recordsBytes ms)
-unfolding recordsBytes
-record-in [] i h = absurd (omega arith)
-record-in (m ∷ ms) zero h = omega (arith, length-append (recordBytes m) (recordsBytes ms), length-record m)
-record-in (m ∷ ms) (suc i) h =
-    omega (
-      arith,
-      length-append (recordBytes m) (recordsBytes ms),
-      length-append (recordBytes m) (recordsBytes (take i ms)),
-      record-in ms i (omega arith),
-    )
-
-length-first : (m rest : List ℕ) → messageFits m ≡ true → fieldAt 0 2 (recordBytes m ++ rest) ≡ length m
-unfolding fieldAt recordBytes numberBytes
-length-first m rest h = number-back 2 (length m) (omega (arith, message-most m h))
-
--- the length that a record begins with
-record-length : (ms : List (List ℕ)) (rest : List ℕ) (i : ℕ) → AreMessages ms → i < length ms
-    → fieldAt (offsetAt ms i) 2 (recordsBytes ms ++ rest) ≡ length (messageAt ms i)
-unfolding recordsBytes
-record-length [] rest i a h = absurd (omega arith)
-record-length (m ∷ ms) rest zero a h =
-    rw (append-assoc (recordBytes m) (recordsBytes ms) rest) (length-first m (recordsBytes ms ++ rest) (a .0))
-record-length (m ∷ ms) rest (suc i) a h =
-    let z : length (recordBytes m ++ recordsBytes (take i ms)) ≡ length (recordBytes m) + offsetAt ms i =
-    length-append (recordBytes m) (recordsBytes (take i ms)) in
-    rw (z, append-assoc (recordBytes m) (recordsBytes ms) rest)
-    (field-behind (recordBytes m) (recordsBytes ms ++ rest) (offsetAt ms i) 2 ∙ record-length ms rest i (a .1) (omega arith))
-
--- ---- the fields of a file of messages
-
-module _ (f : Form) (ms : List (List ℕ)) (a : AreMessages ms) (are : AreBytes (fileOf f ms)) (small : length (fileOf f ms) ≤ limit f)
-    (i : ℕ) (h : i < length ms) where
-  small-offset : offsetAt ms i < 256 ^ offsetWidth f
-  small-offset = omega (arith, record-in ms i h, length-file f ms, limit-fits f)
-
-  small-session : sessionOf (messageAt ms i) < 256 ^ 2
-  unfolding fieldAt fileOf
-  small-session =
-      read-below (messageAt ms i) sessionAt 2 (omega (arith, message-least (messageAt ms i) (message-fits ms i a h)))
-      (message-bytes ms i (bytes-left (recordsBytes ms) (closingBytes f ms) are) h)
-
-  index-at : (k w : ℕ) → k + w ≤ entrySize f
-      → fieldAt (length (recordsBytes ms) + (entrySize f * i + k)) w (fileOf f ms)
-      ≡ fieldAt k w (entryBytes f (offsetAt ms i) (messageAt ms i))
-  unfolding fileOf closingBytes
-  index-at k w l =
-      let z : 0 + offsetAt ms i ≡ offsetAt ms i = omega arith in
-      let last = trailerBytes f (length (recordsBytes ms)) (length ms) in
-      field-behind (recordsBytes ms) (closingBytes f ms) (entrySize f * i + k) w ∙ rw z at (index-field f 0 ms last i k w h l)
-
-  pub file-offset : fieldAt (length (recordsBytes ms) + entrySize f * i) (offsetWidth f) (fileOf f ms) ≡ offsetAt ms i
-  file-offset =
-      let e : length (recordsBytes ms) + (entrySize f * i + 0) ≡ length (recordsBytes ms) + entrySize f * i = omega arith in
-      rw e at (index-at 0 (offsetWidth f) (omega arith)) ∙ entry-offset f (offsetAt ms i) (messageAt ms i) small-offset
-
-  pub file-session : fieldAt (length (recordsBytes ms) + entrySize f * i + offsetWidth f) 2 (fileOf f ms) ≡ sessionOf (messageAt ms i)
-  file-session =
-      let w = offsetWidth f in
-      let e : length (recordsBytes ms) + (entrySize f * i + w) ≡ length (recordsBytes ms) + entrySize f * i + w = omega arith in
-      rw e at (index-at w 2 (omega arith)) ∙ entry-session f (offsetAt ms i) (messageAt ms i) small-session
-
-  pub file-length : fieldAt (offsetAt ms i) 2 (fileOf f ms) ≡ length (messageAt ms i)
-  unfolding fileOf
-  file-length = record-length ms (closingBytes f ms) i a h
 
 -- ---- what the answer to opening says
 
@@ -171,7 +38,7 @@ heldBy (refused v) = []
 heldBy (holds f ms) = ms
 
 module _ (file : List ℕ) (o : Opening) (eo : o ≡ openingBy (archiveOf file)) where
-  pub held-count : o .entries ≡ length (heldBy (archiveOf file))
+  held-count : o .entries ≡ length (heldBy (archiveOf file))
   held-count = ap (λ (x : Opening). x .entries) eo ∙ go (archiveOf file)
     where
       go : (a : Archive) → (openingBy a) .entries ≡ length (heldBy a)
@@ -185,7 +52,7 @@ module _ (file : List ℕ) (o : Opening) (eo : o ≡ openingBy (archiveOf file))
     opened-as a (opened ms) e h = record { messages = ms; are-held = e; size-is = rw (eo, e); count-is = rw (eo, e) }
 
     -- some entries, or verdict 0: the file was opened
-    pub opened-some : 0 < o .entries → Opened file f (o .size) (o .entries)
+    opened-some : 0 < o .entries → Opened file f (o .size) (o .entries)
     opened-some h =
         opened-as (archiveOf file) form refl (λ v e. let z = ap (λ (x : Opening). x .entries) (eo ∙ ap openingBy e) in omega arith)
 
@@ -254,19 +121,19 @@ module _ (file : List ℕ) (f : Form) (size count : ℕ) (o : Opened file f size
       offset-is : fieldAt (size + entrySize f * i) (offsetWidth f) file ≡ offsetAt ms i
       offset-is =
           ap (λ k. fieldAt (k + entrySize f * i) (offsetWidth f) file) (o .size-is)
-          ∙ in-file (fieldAt _ _) _ (file-offset f ms (whole .1) are-file most-file i there)
+          ∙ in-file (fieldAt _ _) _ (file-offset f ms i there (whole .1) are-file most-file)
 
       session-is : fieldAt (size + entrySize f * i + offsetWidth f) 2 file ≡ sessionOf (messageAt ms i)
       session-is =
           ap (λ k. fieldAt (k + entrySize f * i + offsetWidth f) 2 file) (o .size-is)
-          ∙ in-file (fieldAt _ _) _ (file-session f ms (whole .1) are-file most-file i there)
+          ∙ in-file (fieldAt _ _) _ (file-session f ms i there (whole .1) are-file most-file)
 
       -- its record
       length-is : fieldAt (offsetAt ms i) 2 file ≡ length (messageAt ms i)
-      length-is = in-file (fieldAt _ _) _ (file-length f ms (whole .1) are-file most-file i there)
+      length-is = in-file (fieldAt _ _) _ (file-length f ms i there (whole .1))
 
-      record-there : offsetAt ms i + 2 ≤ length file
-      record-there = omega (arith, record-in ms i there, file-long, o .size-is)
+      length-in : offsetAt ms i + 2 ≤ length file
+      length-in = omega (arith, ap length (whole .0), record-there f ms i there)
 
     -- the n-th from 1, as the code goes
     module _ (n : ℕ) (first : 0 < n) (last : n ≤ count) (e w : ℕ) (ee : e ≡ entrySize f) (ew : w ≡ offsetWidth f) where
@@ -281,7 +148,7 @@ module _ (file : List ℕ) (f : Form) (size count : ℕ) (o : Opened file f size
         at-is = ea ∙ rw (ee, ew) (offset-is (n - 1) under)
 
         pub nth-there : at + 2 ≤ length file
-        nth-there = rw at-is (record-there (n - 1) under)
+        nth-there = rw at-is (length-in (n - 1) under)
 
         pub nth-is : (len : ℕ) → len ≡ fieldAt at 2 file
             → record { verdict = Accepted; number = n; message = part (at + 2) len } ≡ readingBy n (archiveOf file)
@@ -305,13 +172,13 @@ numbered-more : (i k : ℕ) → numbered i (counted k) ≡ numbered (i + 1) k
 numbered-more i zero = refl
 numbered-more i (suc k) = omega arith
 
-pub first-start : (session : ℕ) (a : Archive) → firstIn session a ≡ numbered 0 (firstOf session (heldBy a))
+first-start : (session : ℕ) (a : Archive) → firstIn session a ≡ numbered 0 (firstOf session (heldBy a))
 unfolding firstOf
 first-start session (refused v) = refl
 first-start session (holds f ms) = sym (numbered-none (firstOf session ms))
 
 module _ (session : ℕ) (ms : List (List ℕ)) (i : ℕ) where
-  pub first-none : length ms ≤ i → numbered i (firstOf session (drop i ms)) ≡ 0
+  first-none : length ms ≤ i → numbered i (firstOf session (drop i ms)) ≡ 0
   unfolding firstOf
   first-none h = rw (drop-of-length-le ms h)
 
@@ -321,10 +188,10 @@ module _ (session : ℕ) (ms : List (List ℕ)) (i : ℕ) where
     unfolding firstOf
     next b e = rw (drop-cons ms i [] h, e)
 
-    pub first-hit : sessionOf (messageAt ms i) ≡ session → numbered i (firstOf session (drop i ms)) ≡ i + 1
+    first-hit : sessionOf (messageAt ms i) ≡ session → numbered i (firstOf session (drop i ms)) ≡ i + 1
     first-hit e = ap (numbered i) (next true (eq-eqb _ _ e)) ∙ omega arith
 
-    pub first-miss : (sessionOf (messageAt ms i) ≡ session → ⊥)
+    first-miss : (sessionOf (messageAt ms i) ≡ session → ⊥)
         → numbered i (firstOf session (drop i ms)) ≡ numbered (i + 1) (firstOf session (drop (i + 1) ms))
     first-miss e =
         let s : i + 1 ≡ suc i = omega arith in

@@ -3,11 +3,11 @@
 use mathlib.Core.Path.{_≡_, refl, sym, ap, _∙_}
 use mathlib.Core.Bool.{true}
 use mathlib.Core.List.{List, [], _∷_}
-use Prim.Native.Nat.{ℕ, suc, _+_, _*_, _≤_, _<_}
+use Prim.Native.Nat.{ℕ, _+_, _*_, _≤_, _<_}
 use native.Mathlib.Nat.{mul-suc}
 use native.Mathlib.Omega.{arith}
-use lib.ListN.{length, take, set}
-use lib.Seq.{sets, slice, slice-empty, take-set-le, length-sets}
+use lib.ListN.{length, take}
+use lib.Seq.{sets, slice, slice-empty, length-sets}
 use Rattle.wire.specs.Number.{big, numberBytes}
 use Rattle.wire.specs.Header.{fieldAt, sessionOf}
 use Rattle.wire.proofs.NumberLaws.{length-numberBytes}
@@ -16,14 +16,10 @@ use Rattle.archive.specs.declared.form.Form.{Form}
 use Rattle.archive.specs.Form.{offsetWidth, entrySize, entryBytes, indexBytes}
 use Rattle.archive.specs.Records.{messageIn, recordFits, messagesTo}
 use Rattle.archive.specs.Walking.{cutSize, isWhole, listed, sessionIn}
-use Rattle.archive.proofs.RecordLaws.{cut-nothing, length-entry}
-use Rattle.archive.proofs.WalkLaws.{cut-sized, size-of, size-there, session-there}
+use Rattle.archive.proofs.ListLaws.{take-sets}
+use Rattle.archive.proofs.RecordLaws.{length-entry, cut-nothing}
+use Rattle.archive.proofs.WalkLaws.{size-of, cut-sized, size-there, session-there}
 use Rattle.archive.proofs.LeftLaws.{messagesFrom, next-fits, next-whole, next-listed, whole-within, from-start}
-
--- stores at or behind a place leave what is before it
-take-sets : (n : ℕ) (l : List ℕ) (i : ℕ) (xs : List ℕ) → n ≤ i → take n (sets l i xs) ≡ take n l
-take-sets n l i [] h = refl
-take-sets n l i (x ∷ xs) h = take-sets n (set l i x) (suc i) xs (omega arith) ∙ take-set-le n l i x h
 
 -- what is left to store
 abbrev left : List ℕ → Form → ℕ → ℕ → List ℕ

@@ -29,10 +29,10 @@ use Rattle.archive.specs.Promises.{
   AddChanges,
   CloseChanges,
 }
-use Rattle.archive.proofs.RecordLaws.{length-record, length-closing, length-file}
+use Rattle.archive.proofs.VerdictLaws.{refusal}
+use Rattle.archive.proofs.RecordLaws.{length-record, length-closing, length-file, records-append}
 use Rattle.archive.proofs.LeftLaws.{told-size, records-cut, cut-records}
 use Rattle.archive.proofs.AddLaws.{not-full}
-use Rattle.archive.proofs.ListLaws.{records-append}
 
 -- ---- room
 
@@ -103,7 +103,7 @@ module _ (file : List ℕ) (told : ℕ) (m : List ℕ) where
       go : (o : Option (List (List ℕ))) → messagesTo file told ≡ o → keptBy told (addingTo file told m o) .verdict ≡ v
           → AddedWhen file told m v
       go none eo e = subst (AddedWhen file told m) e (λ ms r. Option·none-ne-some ms (sym eo ∙ records-cut file told ms r))
-      go (some ms) eo e = message ms (cut-records file told ms b eo) (messageFits m) refl e
+      go (some ms) eo e = message ms (cut-records file told ms eo b) (messageFits m) refl e
 
   -- an added record
   pub add-stores : (ms : List (List ℕ)) → RecordsTo file told ms → messageFits m ≡ true → Fits file (more ms)
@@ -118,7 +118,7 @@ module _ (file : List ℕ) (told : ℕ) (m : List ℕ) where
     where
       go : (o : Option (List (List ℕ))) → messagesTo file told ≡ o → keptBy told (addingTo file told m o) .verdict ≡ Records
       go none e = refl
-      go (some ms) e = absurd (n ms (cut-records file told ms b e))
+      go (some ms) e = absurd (n ms (cut-records file told ms e b))
   added-gives b NoMessage (ms, r, h) = rw (records-cut file told ms r, h)
   added-gives b Full (ms, r, h, n) = rw (records-cut file told ms r, h) (go (addFull ms) refl)
     where
@@ -155,7 +155,7 @@ module _ (file : List ℕ) (told : ℕ) where
       go : (o : Option (List (List ℕ))) → messagesTo file told ≡ o → keptBy told (closingTo file told o) .verdict ≡ v
           → ClosedWhen file told v
       go none eo e = subst (ClosedWhen file told) e (λ ms r. Option·none-ne-some ms (sym eo ∙ records-cut file told ms r))
-      go (some ms) eo e = room ms (cut-records file told ms b eo) (closeFull ms) refl e
+      go (some ms) eo e = room ms (cut-records file told ms eo b) (closeFull ms) refl e
 
   -- a closed file
   pub close-stores : (ms : List (List ℕ)) → RecordsTo file told ms → Fits file ms → closing file told ≡ stores (closingBytes written ms)
@@ -169,7 +169,7 @@ module _ (file : List ℕ) (told : ℕ) where
     where
       go : (o : Option (List (List ℕ))) → messagesTo file told ≡ o → keptBy told (closingTo file told o) .verdict ≡ Records
       go none e = refl
-      go (some ms) e = absurd (n ms (cut-records file told ms b e))
+      go (some ms) e = absurd (n ms (cut-records file told ms e b))
   closed-gives b Full (ms, r, n) = rw (records-cut file told ms r) (go (closeFull ms) refl)
     where
       go : (c : Bool) → closeFull ms ≡ c → keptBy told (pick c (refused Full) (stores (closingBytes written ms))) .verdict ≡ Full
@@ -189,15 +189,6 @@ data Stored (room told : ℕ) (xs : List ℕ) : Outcome → Type 0 where
   not-stored : (v : Verdict) → (v ≡ Accepted → ⊥) → Stored room told xs (refused v)
   are-stored : told + length xs ≤ room → Stored room told xs (stores xs)
 
-records-not : Records ≡ Accepted → ⊥
-records-not e = let z : _≡_ {A = ℕ} 0 1 = cc in omega arith
-
-message-not : NoMessage ≡ Accepted → ⊥
-message-not e = let z : _≡_ {A = ℕ} 0 1 = cc in omega arith
-
-full-not : Full ≡ Accepted → ⊥
-full-not e = let z : _≡_ {A = ℕ} 0 1 = cc in omega arith
-
 module _ (file : List ℕ) (told : ℕ) where
   add-stored : (m : List ℕ) → Stored (length file) told (recordBytes m) (adding file told m)
   unfolding adding
@@ -205,7 +196,7 @@ module _ (file : List ℕ) (told : ℕ) where
     where
       room : (ms : List (List ℕ)) (c : Bool) → addFull file told m ms ≡ c
           → Stored (length file) told (recordBytes m) (pick c (refused Full) (stores (recordBytes m)))
-      room ms true e = not-stored Full full-not
+      room ms true e = not-stored Full (refusal Full (omega arith))
       room ms false e =
           are-stored (omega (arith, not-full written (length file) (told + recordSize m) (suc (length ms)) e, length-record m))
 
@@ -213,10 +204,10 @@ module _ (file : List ℕ) (told : ℕ) where
           → Stored (length file) told (recordBytes m)
           (pick c (pick (addFull file told m ms) (refused Full) (stores (recordBytes m))) (refused NoMessage))
       message ms true = room ms (addFull file told m ms) refl
-      message ms false = not-stored NoMessage message-not
+      message ms false = not-stored NoMessage (refusal NoMessage (omega arith))
 
       go : (o : Option (List (List ℕ))) → Stored (length file) told (recordBytes m) (addingTo file told m o)
-      go none = not-stored Records records-not
+      go none = not-stored Records (refusal Records (omega arith))
       go (some ms) = message ms (messageFits m)
 
   close-stored : (ms : List (List ℕ)) → messagesTo file told ≡ some ms
@@ -226,12 +217,12 @@ module _ (file : List ℕ) (told : ℕ) where
     where
       go : (c : Bool) → closeFull file told ms ≡ c
           → Stored (length file) told (closingBytes written ms) (pick c (refused Full) (stores (closingBytes written ms)))
-      go true ec = not-stored Full full-not
+      go true ec = not-stored Full (refusal Full (omega arith))
       go false ec = are-stored (omega (arith, not-full written (length file) told (length ms) ec, length-closing written ms))
 
   close-refused : messagesTo file told ≡ none → Stored (length file) told [] (closing file told)
   unfolding closing
-  close-refused e = rw e (not-stored Records records-not)
+  close-refused e = rw e (not-stored Records (refusal Records (omega arith)))
 
   module _ (xs : List ℕ) where
     -- what is left of the file, part by part

@@ -3,40 +3,55 @@
 use mathlib.Core.Path.{_≡_, refl, sym, ap, _∙_}
 use mathlib.Core.Bool.{Bool, true, false}
 use mathlib.Core.Option.{Option, none, some}
-use mathlib.Core.List.{List, [], _∷_}
-use Prim.Native.Nat.{ℕ, zero, suc, _+_, _-_, _≤_, _<_}
+use mathlib.Core.List.{List, _∷_}
+use Prim.Native.Nat.{ℕ, suc, _+_, _-_, _≤_, _<_}
 use native.Mathlib.Omega.{arith}
-use lib.ListN.{length, take, drop}
+use lib.ListN.{length, take}
 use lib.Seq.{slice, length-slice, length-take-le}
 use lib.Dec.{leb}
 use borrow.Author.Tests.{le-leb, leb-true}
 use Rattle.wire.specs.Choose.{pick}
 use Rattle.wire.specs.Number.{AreBytes}
 use Rattle.wire.proofs.NumberLaws.{bytes-take}
-use Rattle.archive.specs.Form.{recordsBytes}
-use Rattle.archive.specs.Records.{lengthIn, messageIn, recordFits, before, cutAll, messagesIn, messagesTo}
+use Rattle.archive.specs.declared.records.Walked.{Walked}
+use Rattle.archive.specs.Form.{AreMessages, recordsBytes}
+use Rattle.archive.specs.Records.{messageIn, recordFits, before, cutAll, messagesIn, messagesTo}
 use Rattle.archive.specs.Walking.{cutSize, walkedFrom, isWhole, listed}
 use Rattle.archive.specs.Promises.{RecordsTo}
-use Rattle.archive.proofs.RecordLaws.{turns-enough, cut-back, cut-is}
-use Rattle.archive.proofs.WalkLaws.{cut-none, cut-more, cut-sized}
+use Rattle.archive.proofs.RecordLaws.{turns-enough, cut-back, cut-messages, cut-few, cut-is}
+use Rattle.archive.proofs.WalkLaws.{cut-none, cut-sized, cut-more}
 
 -- ---- whole or not
 
-pub whole-some : (r : Option (List (List ℕ))) → isWhole r ≡ true → r ≡ some (listed r)
-whole-some none e = cc
-whole-some (some ms) e = refl
-
-pub whole-none : (r : Option (List (List ℕ))) → isWhole r ≡ false → r ≡ none
+whole-none : (r : Option (List (List ℕ))) → isWhole r ≡ false → r ≡ none
 whole-none none e = refl
 whole-none (some ms) e = cc
 
-pub walked-whole : (r : Option (List (List ℕ))) → walkedFrom 0 r .whole ≡ isWhole r
-walked-whole none = refl
-walked-whole (some ms) = refl
+whole-some : (r : Option (List (List ℕ))) → isWhole r ≡ true → r ≡ some (listed r)
+whole-some none e = cc
+whole-some (some ms) e = refl
 
-pub walked-count : (r : Option (List (List ℕ))) → walkedFrom 0 r .count ≡ length (listed r)
-walked-count none = refl
-walked-count (some ms) = omega arith
+-- as the walk over them answers
+module _ (r : Option (List (List ℕ))) (w : Walked) (we : w ≡ walkedFrom 0 r) where
+  walked-whole : isWhole r ≡ w .whole
+  walked-whole = go r ∙ ap (λ (x : Walked). x .whole) (sym we)
+    where
+      go : (r : Option (List (List ℕ))) → isWhole r ≡ walkedFrom 0 r .whole
+      go none = refl
+      go (some ms) = refl
+
+  pub walked-none : w .whole ≡ false → r ≡ none
+  walked-none e = whole-none r (walked-whole ∙ e)
+
+  pub walked-some : w .whole ≡ true → r ≡ some (listed r)
+  walked-some e = whole-some r (walked-whole ∙ e)
+
+  pub walked-count : w .count ≡ length (listed r)
+  walked-count = ap (λ (x : Walked). x .count) we ∙ go r
+    where
+      go : (r : Option (List (List ℕ))) → walkedFrom 0 r .count ≡ length (listed r)
+      go none = refl
+      go (some ms) = omega arith
 
 before-whole : (m : List ℕ) (r : Option (List (List ℕ))) → isWhole (before m r) ≡ isWhole r
 before-whole m none = refl
@@ -45,20 +60,6 @@ before-whole m (some ms) = refl
 before-listed : (m : List ℕ) (r : Option (List (List ℕ))) → isWhole r ≡ true → listed (before m r) ≡ m ∷ listed r
 before-listed m none e = cc
 before-listed m (some ms) e = refl
-
--- no more messages than turns
-pub few-cut : (turns : ℕ) (bytes : List ℕ) → length (listed (cutAll turns bytes)) ≤ turns
-unfolding cutAll
-few-cut zero [] = omega arith
-few-cut zero (x ∷ xs) = omega arith
-few-cut (suc turns) [] = omega arith
-few-cut (suc turns) (x ∷ xs) = go (recordFits (x ∷ xs)) (cutAll turns _) (few-cut turns (drop (2 + lengthIn (x ∷ xs)) (x ∷ xs)))
-  where
-    go : (c : Bool) (r : Option (List (List ℕ))) → length (listed r) ≤ turns
-        → length (listed (pick c (before (messageIn (x ∷ xs)) r) none)) ≤ suc turns
-    go false r h = omega arith
-    go true none h = omega arith
-    go true (some ms) h = omega arith
 
 -- ---- from a place on
 
@@ -124,8 +125,20 @@ module _ (file : List ℕ) (told : ℕ) (ms : List (List ℕ)) where
   pub records-cut : RecordsTo file told ms → messagesTo file told ≡ some ms
   records-cut r = from-start file told (r .inside) ∙ rw (r .records) (cut-back ms (r .messages))
 
-  pub cut-records : AreBytes file → messagesTo file told ≡ some ms → RecordsTo file told ms
-  cut-records b e =
-      let h = whole-within file told (ap isWhole e) in
-      let w = cut-is (take told file) ms (bytes-take told file b) (sym (from-start file told h) ∙ e) in
-      record { inside = h; records = w .0; messages = w .1 }
+  module _ (e : messagesTo file told ≡ some ms) where
+    cut-told : messagesIn (take told file) ≡ some ms
+    cut-told = sym (from-start file told (whole-within file told (ap isWhole e))) ∙ e
+
+    pub told-messages : AreMessages ms
+    told-messages = cut-messages (take told file) ms cut-told
+
+    pub told-few : length ms ≤ told
+    told-few = omega (arith, cut-few (take told file) ms cut-told, length-take-le told file (whole-within file told (ap isWhole e)))
+
+    pub cut-records : AreBytes file → RecordsTo file told ms
+    cut-records b =
+        record {
+          inside = whole-within file told (ap isWhole e);
+          records = cut-is (take told file) ms cut-told (bytes-take told file b);
+          messages = told-messages;
+        }

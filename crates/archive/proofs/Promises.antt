@@ -40,7 +40,7 @@ use Rattle.archive.specs.Promises.{
 }
 use Rattle.archive.specs.Cases.{CasesHold}
 use Rattle.archive.proofs.VerdictLaws.{verdict-one}
-use Rattle.archive.proofs.RecordLaws.{cut-back, cut-is}
+use Rattle.archive.proofs.RecordLaws.{cut-back, cut-messages, cut-is}
 use Rattle.archive.proofs.FileLaws.{file-holds}
 use Rattle.archive.proofs.ByteLaws as bytes
 use Rattle.archive.proofs.AcceptLaws as accept
@@ -65,7 +65,7 @@ pub trailer-by-byte : TrailerByByte
 trailer-by-byte = bytes.trailer-by-byte
 
 pub whole-records : WholeRecords
-whole-records bytes ms b = (cut-is bytes ms b, λ (is, are). rw is (cut-back ms are))
+whole-records bytes ms b = (λ e. (cut-is bytes ms e b, cut-messages bytes ms e), λ (is, are). rw is (cut-back ms are))
 
 pub records-differ : RecordsDiffer
 records-differ ms ns a b e = Option·some-injective ms ns (sym (cut-back ms a) ∙ ap messagesIn e ∙ cut-back ns b)
@@ -86,7 +86,7 @@ pub open-answers : OpenAnswers
 open-answers = accept.open-answers
 
 pub held-by-byte : HeldByByte
-held-by-byte = show.held-by-byte
+held-by-byte = bytes.held-by-byte
 
 pub add-verdicts : AddVerdicts
 add-verdicts = keep.add-verdicts

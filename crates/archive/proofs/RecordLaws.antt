@@ -1,20 +1,20 @@
 -- Whole records: what was put together is cut as it was, and what was cut was put together so.
 -- Assumes nothing.
 use mathlib.Core.Path.{_≡_, refl, sym, ap, subst, _∙_}
-use Prim.Native.Nat.{ℕ, zero, suc, _+_, _-_, _*_, _^_, _≤_, _<_}
+use Prim.Native.Nat.{ℕ, zero, suc, _+_, _-_, _*_, _≤_, _<_}
 use native.Mathlib.Omega.{arith}
 use mathlib.Core.Bool.{Bool, true, false}
 use mathlib.Core.Option.{Option, none, some, Option·none-ne-some, Option·some-injective}
-use mathlib.Core.List.{List, [], _∷_, _++_}
-use lib.ListN.{length, getD, take, drop, length-append, length-drop, take-append-drop}
-use lib.Seq.{slice, length-take-le, take-append-le, take-at, drop-at, take-length, take-add}
+use mathlib.Core.List.{List, [], _∷_, _++_, append-assoc}
+use lib.ListN.{length, take, drop, length-append, length-drop, take-append-drop}
+use lib.Seq.{length-take-le, take-at, drop-at, take-add}
 use lib.Dec.{leb, eqb}
 use borrow.Author.Tests.{le-leb, lt-leb, leb-true}
-use Rattle.wire.specs.Choose.{pick, and}
-use Rattle.wire.specs.Number.{AreBytes, big, numberOf, numberBytes}
+use Rattle.wire.specs.Choose.{pick}
+use Rattle.wire.specs.Number.{AreBytes, big, numberBytes}
 use Rattle.wire.specs.Header.{fieldAt, headerLen, lengthOf}
 use Rattle.wire.proofs.ChooseLaws.{and-left, and-right}
-use Rattle.wire.proofs.NumberLaws.{length-numberBytes, number-back, bytes-back, bytes-take, bytes-right}
+use Rattle.wire.proofs.NumberLaws.{length-numberBytes, number-back, bytes-back, bytes-take}
 use Rattle.archive.specs.declared.form.Form.{Form}
 use Rattle.archive.specs.Form.{
   offsetWidth,
@@ -34,6 +34,7 @@ use Rattle.archive.specs.Form.{
   fileSize,
 }
 use Rattle.archive.specs.Records.{lengthIn, messageIn, recordFits, before, cutAll, messagesIn}
+use Rattle.archive.proofs.ListLaws.{bytes-drop}
 
 -- ---- sizes
 
@@ -51,7 +52,7 @@ length-index f at [] = omega arith
 length-index f at (m ∷ ms) =
     rw (length-append (entryBytes f at m), length-entry f at m, length-index f (at + recordSize m) ms) (omega arith)
 
-pub length-trailer : (f : Form) (at n : ℕ) → length (trailerBytes f at n) ≡ trailerLen
+length-trailer : (f : Form) (at n : ℕ) → length (trailerBytes f at n) ≡ trailerLen
 unfolding trailerBytes numberBytes
 length-trailer f at n = refl
 
@@ -74,19 +75,6 @@ module _ (m : List ℕ) (h : messageFits m ≡ true) where
   unfolding messageFits
   message-most = leb-true (length m) messageMost (and-left _ _ (and-right (leb headerLen (length m)) _ h))
 
--- records of messages have 18 bytes or more each
-pub records-least : (ms : List (List ℕ)) → AreMessages ms → 18 * length ms ≤ length (recordsBytes ms)
-unfolding recordsBytes
-records-least [] a = omega arith
-records-least (m ∷ ms) a =
-    omega (
-      arith,
-      length-append (recordBytes m) (recordsBytes ms),
-      length-record m,
-      message-least m (a .0),
-      records-least ms (a .1),
-    )
-
 -- the test, as the code goes
 pub message-short : (m : List ℕ) → length m < headerLen → false ≡ messageFits m
 unfolding messageFits
@@ -99,6 +87,30 @@ message-long m h k = rw (le-leb headerLen (length m) h, lt-leb (length m) messag
 pub message-by : (m : List ℕ) → headerLen ≤ length m → length m ≤ messageMost → eqb (lengthOf m) (length m - 8) ≡ messageFits m
 unfolding messageFits
 message-by m h k = rw (le-leb headerLen (length m) h, le-leb (length m) messageMost k)
+
+-- ---- lists of messages
+
+-- their records have 18 bytes or more each
+pub records-least : (ms : List (List ℕ)) → AreMessages ms → 18 * length ms ≤ length (recordsBytes ms)
+unfolding recordsBytes
+records-least [] a = omega arith
+records-least (m ∷ ms) a =
+    omega (
+      arith,
+      length-append (recordBytes m) (recordsBytes ms),
+      length-record m,
+      message-least m (a .0),
+      records-least ms (a .1),
+    )
+
+pub records-append : (ms ns : List (List ℕ)) → recordsBytes (ms ++ ns) ≡ recordsBytes ms ++ recordsBytes ns
+unfolding recordsBytes
+records-append [] ns = refl
+records-append (m ∷ ms) ns = rw (records-append ms ns) (sym (append-assoc (recordBytes m) (recordsBytes ms) (recordsBytes ns)))
+
+pub messages-append : (ms ns : List (List ℕ)) → AreMessages ms → AreMessages ns → AreMessages (ms ++ ns)
+messages-append [] ns a b = b
+messages-append (m ∷ ms) ns a b = (a .0, messages-append ms ns (a .1) b)
 
 -- ---- one record
 
@@ -116,7 +128,7 @@ cut-nothing zero = refl
 cut-nothing (suc turns) = refl
 
 module _ (m rest : List ℕ) (h : messageFits m ≡ true) where
-  length-back : lengthIn (recordBytes m ++ rest) ≡ length m
+  pub length-back : lengthIn (recordBytes m ++ rest) ≡ length m
   unfolding recordBytes numberBytes fieldAt
   length-back = number-back 2 (length m) (omega (arith, message-most m h))
 
@@ -141,7 +153,7 @@ module _ (m rest : List ℕ) (h : messageFits m ≡ true) where
   rest-back = drop-at (recordBytes m) rest _ (length-record m ∙ ap (λ n. 2 + n) (sym length-back))
 
   -- a record before other bytes
-  pub cut-record : (turns : ℕ) → cutAll (suc turns) (recordBytes m ++ rest) ≡ before m (cutAll turns rest)
+  cut-record : (turns : ℕ) → cutAll (suc turns) (recordBytes m ++ rest) ≡ before m (cutAll turns rest)
   cut-record turns =
       let some-bytes : 0 < length (recordBytes m ++ rest) = omega (arith, length-append (recordBytes m) rest, length-record m) in
       rw (cut-step turns (recordBytes m ++ rest) some-bytes, fits-back, message-back, rest-back)
@@ -183,8 +195,8 @@ cut-back (m ∷ ms) a = go (length (recordBytes m ++ recordsBytes ms)) (length-a
 -- ---- and back
 
 -- a record that fits is the message in it
-module _ (bytes : List ℕ) (bs : AreBytes bytes) (h : recordFits bytes ≡ true) where
-  record-whole : 2 + lengthIn bytes ≤ length bytes
+module _ (bytes : List ℕ) (h : recordFits bytes ≡ true) where
+  pub record-whole : 2 + lengthIn bytes ≤ length bytes
   unfolding recordFits
   record-whole = leb-true _ _ (and-left _ _ h)
 
@@ -192,47 +204,68 @@ module _ (bytes : List ℕ) (bs : AreBytes bytes) (h : recordFits bytes ≡ true
   unfolding recordFits
   record-message = and-right (leb (2 + lengthIn bytes) (length bytes)) _ h
 
-  message-length : length (messageIn bytes) ≡ lengthIn bytes
+  pub message-length : length (messageIn bytes) ≡ lengthIn bytes
   message-length = length-take-le (lengthIn bytes) (drop 2 bytes) (omega (arith, record-whole, length-drop 2 bytes))
 
-  length-bytes : numberBytes big 2 (lengthIn bytes) ≡ take 2 bytes
-  unfolding fieldAt
-  length-bytes =
-      let two : length (take 2 bytes) ≡ 2 = length-take-le 2 bytes (omega (arith, record-whole)) in
-      rw two at (bytes-back (take 2 bytes) (bytes-take 2 bytes bs))
+  module _ (bs : AreBytes bytes) where
+    length-bytes : numberBytes big 2 (lengthIn bytes) ≡ take 2 bytes
+    unfolding fieldAt
+    length-bytes =
+        let two : length (take 2 bytes) ≡ 2 = length-take-le 2 bytes (omega (arith, record-whole)) in
+        rw two at (bytes-back (take 2 bytes) (bytes-take 2 bytes bs))
 
-  record-is : recordBytes (messageIn bytes) ≡ take (2 + lengthIn bytes) bytes
-  unfolding recordBytes
-  record-is = rw (message-length, length-bytes) (sym (take-add 2 (lengthIn bytes) bytes))
+    record-is : recordBytes (messageIn bytes) ≡ take (2 + lengthIn bytes) bytes
+    unfolding recordBytes
+    record-is = rw (message-length, length-bytes) (sym (take-add 2 (lengthIn bytes) bytes))
 
-  pub record-first : bytes ≡ recordBytes (messageIn bytes) ++ drop (2 + lengthIn bytes) bytes
-  record-first = sym (ap (λ xs. xs ++ drop (2 + lengthIn bytes) bytes) record-is ∙ take-append-drop (2 + lengthIn bytes) bytes)
+    record-first : bytes ≡ recordBytes (messageIn bytes) ++ drop (2 + lengthIn bytes) bytes
+    record-first = sym (ap (λ xs. xs ++ drop (2 + lengthIn bytes) bytes) record-is ∙ take-append-drop (2 + lengthIn bytes) bytes)
 
-bytes-drop : (n : ℕ) (xs : List ℕ) → AreBytes xs → AreBytes (drop n xs)
-bytes-drop n xs b = bytes-right (take n xs) (drop n xs) (rw (take-append-drop n xs) b)
+-- bytes that were cut into messages, record by record
+data Cut : List ℕ → List (List ℕ) → Type 0 where
+  cut-none : Cut [] []
+  cut-more : (bytes : List ℕ) (ms : List (List ℕ)) → recordFits bytes ≡ true → Cut (drop (2 + lengthIn bytes) bytes) ms
+      → Cut bytes (messageIn bytes ∷ ms)
 
--- Bytes that were cut are the records of the messages.
-cut-all : (turns : ℕ) (bytes : List ℕ) (ms : List (List ℕ)) → AreBytes bytes → cutAll turns bytes ≡ some ms
-    → (bytes ≡ recordsBytes ms) × AreMessages ms
-unfolding cutAll recordsBytes
-cut-all zero [] ms b e = subst (λ x. ([] ≡ recordsBytes x) × AreMessages x) (Option·some-injective [] ms e) (refl, tt)
-cut-all zero (x ∷ xs) ms b e = absurd (Option·none-ne-some ms e)
-cut-all (suc turns) [] ms b e = subst (λ x. ([] ≡ recordsBytes x) × AreMessages x) (Option·some-injective [] ms e) (refl, tt)
-cut-all (suc turns) (x ∷ xs) ms b e =
-    go (recordFits (x ∷ xs)) (cutAll turns rest) refl (λ more. cut-all turns rest more (bytes-drop (2 + lengthIn (x ∷ xs)) (x ∷ xs) b)) e
+is-cut : (turns : ℕ) (bytes : List ℕ) (ms : List (List ℕ)) → cutAll turns bytes ≡ some ms → Cut bytes ms
+unfolding cutAll
+is-cut zero [] ms e = subst (Cut []) (Option·some-injective [] ms e) cut-none
+is-cut zero (x ∷ xs) ms e = absurd (Option·none-ne-some ms e)
+is-cut (suc turns) [] ms e = subst (Cut []) (Option·some-injective [] ms e) cut-none
+is-cut (suc turns) (x ∷ xs) ms e = go (recordFits (x ∷ xs)) (cutAll turns rest) refl (is-cut turns rest) e
   where
     rest : List ℕ
     rest = drop (2 + lengthIn (x ∷ xs)) (x ∷ xs)
 
-    go : (c : Bool) (r : Option (List (List ℕ))) → recordFits (x ∷ xs) ≡ c
-        → ((more : List (List ℕ)) → r ≡ some more → (rest ≡ recordsBytes more) × AreMessages more)
-        → pick c (before (messageIn (x ∷ xs)) r) none ≡ some ms → ((x ∷ xs) ≡ recordsBytes ms) × AreMessages ms
+    go : (c : Bool) (r : Option (List (List ℕ))) → recordFits (x ∷ xs) ≡ c → ((more : List (List ℕ)) → r ≡ some more → Cut rest more)
+        → pick c (before (messageIn (x ∷ xs)) r) none ≡ some ms → Cut (x ∷ xs) ms
     go false r ec ih q = absurd (Option·none-ne-some ms q)
     go true none ec ih q = absurd (Option·none-ne-some ms q)
-    go true (some more) ec ih q =
-        let w = ih more refl in
-        subst (λ l. ((x ∷ xs) ≡ recordsBytes l) × AreMessages l) (Option·some-injective _ ms q)
-        (record-first (x ∷ xs) b ec ∙ ap (λ l. recordBytes (messageIn (x ∷ xs)) ++ l) (w .0), (record-message (x ∷ xs) b ec, w .1))
+    go true (some more) ec ih q = subst (Cut (x ∷ xs)) (Option·some-injective _ ms q) (cut-more (x ∷ xs) more ec (ih more refl))
 
-pub cut-is : (bytes : List ℕ) (ms : List (List ℕ)) → AreBytes bytes → messagesIn bytes ≡ some ms → (bytes ≡ recordsBytes ms) × AreMessages ms
-cut-is bytes ms b e = cut-all (length bytes) bytes ms b e
+messages-cut : {bytes : List ℕ} {ms : List (List ℕ)} → Cut bytes ms → AreMessages ms
+messages-cut cut-none = tt
+messages-cut (cut-more bytes ms h c) = (record-message bytes h, messages-cut c)
+
+bytes-cut : {bytes : List ℕ} {ms : List (List ℕ)} → AreBytes bytes → Cut bytes ms → bytes ≡ recordsBytes ms
+unfolding recordsBytes
+bytes-cut b cut-none = refl
+bytes-cut b (cut-more bytes ms h c) =
+    record-first bytes h b
+    ∙ ap (λ l. recordBytes (messageIn bytes) ++ l) (bytes-cut (bytes-drop (2 + lengthIn bytes) bytes b) c)
+
+few-cut : {bytes : List ℕ} {ms : List (List ℕ)} → Cut bytes ms → length ms ≤ length bytes
+few-cut cut-none = omega arith
+few-cut (cut-more bytes ms h c) = omega (arith, record-whole bytes h, length-drop (2 + lengthIn bytes) bytes, few-cut c)
+
+module _ (bytes : List ℕ) (ms : List (List ℕ)) (e : messagesIn bytes ≡ some ms) where
+  -- what was cut are messages, no more than there are bytes
+  pub cut-messages : AreMessages ms
+  cut-messages = messages-cut (is-cut (length bytes) bytes ms e)
+
+  pub cut-few : length ms ≤ length bytes
+  cut-few = few-cut (is-cut (length bytes) bytes ms e)
+
+  -- and the bytes are their records
+  pub cut-is : AreBytes bytes → bytes ≡ recordsBytes ms
+  cut-is b = bytes-cut b (is-cut (length bytes) bytes ms e)

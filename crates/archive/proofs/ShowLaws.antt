@@ -1,102 +1,32 @@
 -- Reading the n-th message and finding the first of a Session ID: the part of the file is the message.
 -- Assumes nothing.
-use mathlib.Core.Path.{_≡_, refl, sym, ap, subst, _∙_}
-use Prim.Native.Nat.{ℕ, zero, suc, _+_, _-_, _*_, _≤_, _<_}
+use mathlib.Core.Path.{_≡_, refl, sym, ap, subst}
+use Prim.Native.Nat.{ℕ, zero, suc, _+_, _-_, _≤_, _<_}
 use native.Mathlib.Omega.{arith}
 use mathlib.Core.Bool.{Bool, true, false}
 use mathlib.Core.Logic.{_⊎_, inl, inr}
-use mathlib.Core.List.{List, [], _∷_, _++_, append-assoc}
-use lib.ListN.{length, take, drop, length-append}
-use lib.Seq.{slice, split-at}
+use mathlib.Core.List.{List, [], _∷_}
+use lib.ListN.{length}
 use lib.Dec.{ltb, eqb}
 use borrow.Author.Tests.{lt-ltb, ltb-true, ltb-false, eqb-true, eqb-false}
 use Rattle.wire.specs.Choose.{pick}
-use Rattle.wire.specs.Number.{AreBytes, big, numberBytes}
 use Rattle.wire.specs.Header.{sessionOf}
-use Rattle.wire.specs.Part.{part, partOf}
-use Rattle.wire.proofs.NumberLaws.{length-numberBytes}
-use Rattle.wire.proofs.PartLaws.{part-inside}
+use Rattle.wire.specs.Part.{part}
 use Rattle.archive.specs.declared.verdict.Verdict.the-variants.{Accepted, NoRecord}
 use Rattle.archive.specs.declared.form.Form.{Form}
 use Rattle.archive.specs.declared.find.Found.{Found}
-use Rattle.archive.specs.Form.{limit, written, AreMessages, recordBytes, recordsBytes, closingBytes, fileOf}
+use Rattle.archive.specs.Form.{fileOf}
 use Rattle.archive.specs.Opening.{Archive, refused, holds, archiveOf, openingBy}
 use Rattle.archive.specs.Finding.{messageAt, offsetAt, noneFound, nth, readingBy, counted, firstOf, findingBy}
-use Rattle.archive.specs.Promises.{PlaceLaw, HeldByByte, ReadLaw, ReadsNth, FirstWith, FindLaw, FindsFirst, RefusesAsOpening}
-use Rattle.archive.proofs.RecordLaws.{length-file}
-use Rattle.archive.proofs.OpenLaws.{file-index, file-entries}
-use Rattle.archive.proofs.FindLaws.{file-offset, file-session, file-length}
-use Rattle.archive.proofs.ByteLaws.{field-two}
+use Rattle.archive.specs.Promises.{ReadLaw, ReadsNth, FirstWith, FindLaw, FindsFirst, RefusesAsOpening}
+use Rattle.archive.proofs.VerdictLaws.{refusal}
+use Rattle.archive.proofs.PlaceLaws.{part-message}
 use Rattle.archive.proofs.AcceptLaws.{held-is}
-use Rattle.archive.proofs.ListLaws.{slice-middle, records-append}
-
--- ---- a message's part of the file
-
-module _ (f : Form) (ms : List (List ℕ)) (i : ℕ) (h : i < length ms) where
-  abbrev m : List ℕ
-  m = messageAt ms i
-
-  abbrev rest : List ℕ
-  rest = recordsBytes (drop (suc i) ms) ++ closingBytes f ms
-
-  -- what stands before the message
-  abbrev front : List ℕ
-  front = recordsBytes (take i ms) ++ numberBytes big 2 (length m)
-
-  length-front : length front ≡ offsetAt ms i + 2
-  length-front = length-append (recordsBytes (take i ms)) (numberBytes big 2 (length m)) ∙ rw (length-numberBytes 2 (length m))
-
-  file-around : fileOf f ms ≡ front ++ (m ++ rest)
-  unfolding fileOf recordsBytes recordBytes
-  file-around =
-      let split : recordsBytes ms ≡ recordsBytes (take i ms) ++ (recordBytes m ++ recordsBytes (drop (suc i) ms)) =
-      ap recordsBytes (split-at ms i [] h) ∙ records-append (take i ms) (m ∷ drop (suc i) ms) in
-      ap (λ l. l ++ closingBytes f ms) split ∙ simp append-assoc
-
-  offset-in : offsetAt ms i + 2 ≤ length (fileOf f ms)
-  offset-in = omega (arith, ap length file-around, length-append front (m ++ rest), length-front)
-
-  message-slice : slice (offsetAt ms i + 2) (offsetAt ms i + 2 + length m) (fileOf f ms) ≡ m
-  message-slice = rw (file-around, ← length-front) (slice-middle front m rest (length m) refl)
-
-  pub part-message : partOf (fileOf f ms) (part (offsetAt ms i + 2) (length m)) ≡ m
-  part-message =
-      let inside : offsetAt ms i + 2 + length m ≤ length (fileOf f ms) =
-      omega (arith, ap length file-around, length-append front (m ++ rest), length-append m rest, length-front) in
-      part-inside (fileOf f ms) (part (offsetAt ms i + 2) (length m)) inside ∙ message-slice
-
--- ---- an accepted file by byte number
-
-place-law : (ms : List (List ℕ)) → AreMessages ms → AreBytes (fileOf written ms) → length (fileOf written ms) ≤ limit written
-    → (i : ℕ) → i < length ms → PlaceLaw (fileOf written ms) ms i
-place-law ms a b few i h =
-    let at = length (recordsBytes ms) in
-    let entry : at + 4 * i + 4 ≤ length (fileOf written ms) = omega (arith, length-file written ms) in
-    record {
-      record-length = sym (field-two (offsetAt ms i) (fileOf written ms) (offset-in written ms i h)) ∙ file-length written ms a b few i h;
-      record-message = message-slice written ms i h;
-      entry-offset =
-          rw (file-index written ms few)
-          (sym (field-two (at + 4 * i) (fileOf written ms) (omega arith)) ∙ file-offset written ms a b few i h);
-      entry-session =
-          rw (file-index written ms few)
-          (sym (field-two (at + 4 * i + 2) (fileOf written ms) (omega arith)) ∙ file-session written ms a b few i h);
-    }
-
-pub held-by-byte : HeldByByte
-held-by-byte file ms b e =
-    let (is, are, few) = held-is file written ms e in
-    rw is
-    (record {
-      index-at = file-index written ms (rw (← is) few);
-      entries-are = file-entries written ms (rw (← is) few) are;
-      places = place-law ms are (rw (← is) b) (rw (← is) few);
-    })
 
 -- ---- reading
 
 not-both : NoRecord ≡ Accepted → ⊥
-not-both e = let z : _≡_ {A = ℕ} 0 1 = cc in omega arith
+not-both = refusal NoRecord (omega arith)
 
 -- the answer that is the message behind i others
 abbrev shown : List (List ℕ) → ℕ → Found
@@ -125,7 +55,7 @@ module _ (file : List ℕ) (f : Form) (ms : List (List ℕ)) where
         refuses = λ e. absurd (not-both (sym e));
       }
 
-  pub read-law : file ≡ fileOf f ms → (n : ℕ) → ReadLaw file ms n (nth ms n)
+  read-law : file ≡ fileOf f ms → (n : ℕ) → ReadLaw file ms n (nth ms n)
   read-law is zero = read-none 0 (inl refl)
   read-law is (suc i) = go (ltb i (length ms)) refl
     where

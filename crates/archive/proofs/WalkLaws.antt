@@ -1,49 +1,35 @@
 -- Records by places in the file: what stands before `size` from `at` on.
 -- Assumes nothing.
-use mathlib.Core.Path.{_≡_, refl, sym, ap, subst, _∙_}
-use Prim.Native.Nat.{ℕ, zero, suc, _+_, _-_, _≤_, _<_}
+use mathlib.Core.Path.{_≡_, refl, sym, ap, _∙_}
+use Prim.Native.Nat.{ℕ, suc, _+_, _-_, _≤_, _<_}
 use native.Mathlib.Omega.{arith}
 use mathlib.Core.Bool.{Bool, true, false}
 use mathlib.Core.Option.{Option, none, some}
-use mathlib.Core.List.{List, [], _∷_}
-use lib.ListN.{length, take, drop, length-drop}
+use mathlib.Core.List.{List, []}
+use lib.ListN.{length, take, drop}
 use lib.Seq.{slice, slice-empty, length-slice, length-take-le, drop-drop, take-take}
-use lib.Dec.{leb}
-use borrow.Author.Tests.{le-leb, lt-leb, leb-true}
-use Rattle.wire.specs.Choose.{pick, and}
-use Rattle.wire.specs.Number.{big, numberOf}
-use Rattle.wire.specs.Part.{runOf}
+use borrow.Author.Tests.{le-leb, lt-leb}
+use Rattle.wire.specs.Choose.{pick}
 use Rattle.wire.specs.Header.{fieldAt, sessionAt, sessionOf}
-use Rattle.wire.proofs.ChooseLaws.{and-left, and-right}
 use Rattle.wire.proofs.PartLaws.{take-drop}
 use Rattle.archive.specs.Form.{messageFits, recordSize}
-use Rattle.archive.specs.Records.{lengthIn, messageIn, recordFits, before, cutAll, messagesIn, messagesTo}
+use Rattle.archive.specs.Records.{lengthIn, messageIn, recordFits, before, cutAll, messagesTo}
 use Rattle.archive.specs.Walking.{cutSize, walkedFrom, sessionIn}
-use Rattle.archive.proofs.RecordLaws.{cut-step, cut-nothing, message-least}
+use Rattle.archive.proofs.ListLaws.{field-in}
+use Rattle.archive.proofs.RecordLaws.{message-least, cut-step, cut-nothing, record-whole, record-message, message-length}
 
 -- nothing stands between a place and itself
 pub cut-end : (turns size : ℕ) (file : List ℕ) → cutAll turns (slice size size file) ≡ some []
 cut-end turns size file = rw (slice-empty size file) (cut-nothing turns)
 
--- a slice of a slice
-pub slice-slice : (file : List ℕ) (at end i w : ℕ) → at + i + w ≤ end → slice i (i + w) (slice at end file) ≡ slice (at + i) (at + i + w) file
-slice-slice file at end i w h =
-    let e : at + (i + w) ≡ at + i + w = omega arith in
-    ap (drop i) (take-drop at (i + w) (take end file) ∙ rw (e, take-take (at + i + w) end file h)) ∙ drop-drop i at (take (at + i + w) file)
-
--- a field of a slice is a field of the whole
-pub field-in : (file : List ℕ) (at end i w : ℕ) → at + i + w ≤ end → fieldAt i w (slice at end file) ≡ fieldAt (at + i) w file
-unfolding fieldAt
-field-in file at end i w h = ap (numberOf big) (slice-slice file at end i w h)
-
 -- ---- the size of a record, as the code finds it
 
-pub no-room : (bytes : List ℕ) → length bytes < 2 + lengthIn bytes → 0 ≡ cutSize bytes
+no-room : (bytes : List ℕ) → length bytes < 2 + lengthIn bytes → 0 ≡ cutSize bytes
 unfolding cutSize recordFits
 no-room bytes h = rw (lt-leb (2 + lengthIn bytes) (length bytes) h)
 
 module _ (file : List ℕ) (at end : ℕ) (inside : end ≤ length file) where
-  pub length-there : at + 2 ≤ end → lengthIn (slice at end file) ≡ fieldAt at 2 file
+  length-there : at + 2 ≤ end → lengthIn (slice at end file) ≡ fieldAt at 2 file
   length-there h = let e : at + 0 ≡ at = omega arith in field-in file at end 0 2 (omega arith) ∙ (rw e)
 
   pub size-short : end - at < 2 → 0 ≡ cutSize (slice at end file)
@@ -54,7 +40,8 @@ module _ (file : List ℕ) (at end : ℕ) (inside : end ≤ length file) where
     size-past k = no-room (slice at end file) (omega (arith, length-slice at end file inside, length-there h))
 
     pub size-by : (n : ℕ) → n ≡ fieldAt at 2 file → at + 2 + n ≤ end
-        → (r s : Bool) → r ≡ messageFits (take (at + 2 + n - (at + 2)) (drop (at + 2) file)) → r ≡ s → pick s (2 + n) 0 ≡ cutSize (slice at end file)
+        → (r s : Bool) → r ≡ messageFits (take (at + 2 + n - (at + 2)) (drop (at + 2) file)) → r ≡ s
+        → pick s (2 + n) 0 ≡ cutSize (slice at end file)
     unfolding cutSize recordFits
     size-by n en k r s er es =
         let l : lengthIn (slice at end file) ≡ n = length-there h ∙ sym en in
@@ -67,7 +54,7 @@ module _ (file : List ℕ) (at end : ℕ) (inside : end ≤ length file) where
 -- ---- a turn of a walk
 
 -- none of a message stands there
-pub zero-size : (bytes : List ℕ) → cutSize bytes ≡ 0 → recordFits bytes ≡ false
+zero-size : (bytes : List ℕ) → cutSize bytes ≡ 0 → recordFits bytes ≡ false
 unfolding cutSize
 zero-size bytes e = go (recordFits bytes) e
   where
@@ -84,7 +71,7 @@ some-size bytes e = go (recordFits bytes) e
     go false q = absurd (q refl)
 
 -- a message before others is one more
-pub walked-more : (n : ℕ) (m : List ℕ) (r : Option (List (List ℕ))) → walkedFrom n (before m r) ≡ walkedFrom (n + 1) r
+walked-more : (n : ℕ) (m : List ℕ) (r : Option (List (List ℕ))) → walkedFrom n (before m r) ≡ walkedFrom (n + 1) r
 walked-more n m none = refl
 walked-more n m (some ms) = let e : n + suc (length ms) ≡ n + 1 + length ms = omega arith in rw e
 
@@ -104,23 +91,12 @@ module _ (file : List ℕ) (at size : ℕ) (under : at < size) (inside : size �
     unfolding cutSize
     size-is = rw fits
 
-    whole : 2 + lengthIn b ≤ length b
-    unfolding recordFits
-    whole = leb-true _ _ (and-left _ _ fits)
-
-    message-there : messageFits (messageIn b) ≡ true
-    unfolding recordFits
-    message-there = and-right (leb (2 + lengthIn b) (length b)) _ fits
-
-    message-long : length (messageIn b) ≡ lengthIn b
-    message-long = length-take-le (lengthIn b) (drop 2 b) (omega (arith, whole, length-drop 2 b))
-
     pub size-of : cutSize b ≡ recordSize (messageIn b)
-    size-of = omega (arith, size-is, message-long)
+    size-of = omega (arith, size-is, message-length b fits)
 
     pub cut-sized : (18 ≤ cutSize b) × (at + cutSize b ≤ size)
     cut-sized =
-        (omega (arith, size-of, message-least (messageIn b) message-there), omega (arith, size-is, whole, long))
+        (omega (arith, size-of, message-least (messageIn b) (record-message b fits)), omega (arith, size-is, record-whole b fits, long))
 
     -- by its length alone
     pub size-there : cutSize b ≡ 2 + fieldAt at 2 file
@@ -130,7 +106,7 @@ module _ (file : List ℕ) (at size : ℕ) (under : at < size) (inside : size �
     cut-more turns =
         rw (cut-step turns b (omega (arith, long)), fits, size-is, drop-drop (2 + lengthIn b) at (take size file))
 
-    pub message-is : messageIn b ≡ slice (at + 2) (at + cutSize b) file
+    message-is : messageIn b ≡ slice (at + 2) (at + cutSize b) file
     message-is =
         let e : at + 2 + lengthIn b ≡ at + cutSize b = omega (arith, size-is) in
         let t = take-take (at + 2 + lengthIn b) size file (omega (arith, cut-sized, size-is)) in

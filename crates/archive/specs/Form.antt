@@ -5,8 +5,8 @@ use mathlib.Core.Bool.{Bool, true}
 use mathlib.Core.Option.{Option, none, some}
 use mathlib.Core.List.{List, [], _∷_, _++_}
 use lib.ListN.{length}
-use lib.Dec.{leb, ltb, eqb}
-use Rattle.wire.specs.Choose.{pick, and, or}
+use lib.Dec.{leb, eqb}
+use Rattle.wire.specs.Choose.{pick, and}
 use Rattle.wire.specs.Number.{big, numberBytes}
 use Rattle.wire.specs.Header.{headerLen, lengthOf, sessionOf}
 use Rattle.archive.specs.declared.form.Form.{Form}

@@ -2,9 +2,9 @@ pub mod Verdict
 pub mod Form
 pub mod Records
 pub mod Adding
+pub mod Added
 pub mod Opening
 pub mod Finding
 pub mod Walking
-pub mod Added
 pub mod Cases
 pub mod Promises

@@ -8,11 +8,11 @@ use Rattle.archive.proofs.AddLaws.{
   not-full,
   when-refused,
   when-stores,
-  count-few,
   add-records,
+  count-few,
   add-no-message,
-  add-over,
   add-full,
+  add-over,
   add-stores,
   added-size,
 }

@@ -11,10 +11,10 @@ use Rattle.archive.proofs.AddLaws.{
   close-full,
   close-stores,
   index-room,
-  closing-few,
-  trailer-room,
   closing-stores,
   closed-size,
+  closing-few,
+  trailer-room,
 }
 use Rattle.archive.proofs.add.close.Statement.{statement}
 use Rattle.archive.proofs.add.close.Tie as tie

@@ -3,7 +3,7 @@
 use native.Mathlib.Omega.{arith}
 use borrow.Author.Needs.{needs}
 use Rattle.archive.proofs.FormLaws.{size-small}
-use Rattle.archive.proofs.AddLaws.{full-size, full-entries, full-room, full-limit}
+use Rattle.archive.proofs.AddLaws.{full-room, full-limit, full-size, full-entries}
 use Rattle.archive.proofs.add.is_full.Statement.{statement}
 use Rattle.archive.proofs.add.is_full.Tie as tie
 

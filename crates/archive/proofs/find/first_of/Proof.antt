@@ -3,8 +3,8 @@
 use Prim.Native.Nat.{_-_}
 use native.Mathlib.Omega.{arith}
 use borrow.Author.Needs.{needs}
-use Rattle.archive.proofs.FormLaws.{width-most, limit-small}
-use Rattle.archive.proofs.FindLaws.{Seeking, seek-start, seek-end, seek-small, seek-in, seek-hit, seek-on}
+use Rattle.archive.proofs.FormLaws.{limit-small, width-most}
+use Rattle.archive.proofs.FindLaws.{Seeking, seek-small, seek-start, seek-end, seek-in, seek-hit, seek-on}
 use Rattle.archive.proofs.find.first_of.Statement.{statement}
 use Rattle.archive.proofs.find.first_of.Tie as tie
 

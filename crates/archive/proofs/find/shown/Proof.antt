@@ -3,7 +3,7 @@
 use mathlib.Core.Path.{sym, _∙_}
 use native.Mathlib.Omega.{arith}
 use Rattle.archive.specs.declared.form.Form.the-variants.{One}
-use Rattle.archive.proofs.FindLaws.{opened-zero, in-one, shown-refused, shown-zero, shown-past}
+use Rattle.archive.proofs.FindLaws.{opened-zero, shown-refused, in-one, shown-zero, shown-past}
 use borrow.Author.Needs.{needs}
 use Rattle.archive.proofs.find.shown.Statement.{statement}
 use Rattle.archive.proofs.find.shown.Tie as tie

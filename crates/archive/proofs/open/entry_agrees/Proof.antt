@@ -4,7 +4,7 @@ use native.Mathlib.Omega.{arith}
 use borrow.Author.Needs.{needs}
 use Rattle.wire.specs.Header.{fieldAt}
 use Rattle.archive.proofs.FormLaws.{width-most}
-use Rattle.archive.proofs.OpenLaws.{entry-other, entry-two}
+use Rattle.archive.proofs.AgreeLaws.{entry-other, entry-two}
 use Rattle.archive.proofs.open.entry_agrees.Statement.{statement}
 use Rattle.archive.proofs.open.entry_agrees.Tie as tie
 

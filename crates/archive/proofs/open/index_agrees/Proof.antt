@@ -6,7 +6,7 @@ use Prim.Native.Nat.{_-_}
 use native.Mathlib.Omega.{arith}
 use borrow.Author.Needs.{needs}
 use borrow.Author.Tests.{not-true, not-false}
-use Rattle.archive.proofs.OpenLaws.{Going, going-start, going-end, going-no, going-on, record-sized, entry-room}
+use Rattle.archive.proofs.AgreeLaws.{Going, going-start, going-end, record-sized, entry-room, going-no, going-on}
 use Rattle.archive.proofs.open.index_agrees.Statement.{statement}
 use Rattle.archive.proofs.open.index_agrees.Tie as tie
 

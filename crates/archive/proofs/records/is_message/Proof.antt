@@ -1,9 +1,7 @@
 -- `archive::records::is_message` meets its contract.
 -- Assumes nothing.
-use mathlib.Core.Path.{ap, _∙_}
 use native.Mathlib.Omega.{arith}
 use borrow.Author.Needs.{needs}
-use lib.ListN.{length}
 use Rattle.wire.specs.Header.{fieldAt}
 use Rattle.archive.proofs.RecordLaws.{message-short, message-long, message-by}
 use Rattle.archive.proofs.records.is_message.Statement.{statement}

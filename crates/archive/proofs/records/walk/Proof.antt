@@ -1,22 +1,24 @@
 -- `archive::records::walk` meets its contract. The loop's invariant: the records up to `at` are n, and what is cut from there on decides.
 -- The measure is what is left.
 -- Assumes nothing.
-use mathlib.Core.Path.{_≡_, refl, sym, ap, _∙_}
+use mathlib.Core.Path.{_≡_, sym, ap, _∙_}
 use Prim.Native.Nat.{_-_, _≤_}
 use native.Mathlib.Omega.{arith}
-use mathlib.Core.List.{List}
 use lib.ListN.{length}
 use lib.Seq.{slice}
 use borrow.Author.Needs.{needs}
 use Rattle.archive.specs.Records.{cutAll, messagesTo}
 use Rattle.archive.specs.Walking.{cutSize, walkedFrom}
-use Rattle.archive.proofs.WalkLaws.{cut-sized, some-size, walk-turn, walk-stop, walk-end, told-past, told-in}
+use Rattle.archive.proofs.WalkLaws.{some-size, cut-sized, walk-turn, walk-stop, walk-end, told-past, told-in}
 use Rattle.archive.proofs.records.walk.Statement.{statement}
 use Rattle.archive.proofs.records.walk.Tie as tie
 
 abbrev Inv-loop : tie.InvT-loop
 Inv-loop file size at₀ n₀ at n =
-    (n ≤ at) × (at ≤ size) × (size ≤ length file) × (walkedFrom 0 (messagesTo file size) ≡ walkedFrom n (cutAll (size - n) (slice at size file)))
+    (n ≤ at)
+    × (at ≤ size)
+    × (size ≤ length file)
+    × (walkedFrom 0 (messagesTo file size) ≡ walkedFrom n (cutAll (size - n) (slice at size file)))
 
 abbrev μ-loop : tie.MeasureT-loop
 μ-loop file size at₀ n₀ at n = size - at
