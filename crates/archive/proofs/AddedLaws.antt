@@ -172,7 +172,7 @@ module _ (file : List ℕ) (told : ℕ) (old ms : List (List ℕ)) (r : RecordsT
   archive-reads i h =
       let law = reads-nth (take (keptBy (a .size) o .size) (fileBy (a .file) (a .size) o)) written all (suc i) added-opens in
       let back : suc i - 1 ≡ i = omega arith in
-      rw back at (law .shows (law .given .1 (omega arith, omega arith)) .1)
+      rw back at (law .shows (law .given .1 (omega arith, omega arith)) .2)
 
   added-law : AddedLaw file told old ms
   added-law = record {

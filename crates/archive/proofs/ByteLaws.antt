@@ -18,7 +18,7 @@ use Rattle.archive.specs.Finding.{offsetAt}
 use Rattle.archive.specs.Promises.{two, four, MessageExactly, SessionByByte, TrailerByByte, PlaceLaw, HeldByByte}
 use Rattle.archive.proofs.RecordLaws.{length-file, message-least, message-most}
 use Rattle.archive.proofs.FileLaws.{file-index, file-entries}
-use Rattle.archive.proofs.PlaceLaws.{record-there, message-slice, file-length, file-offset, file-session}
+use Rattle.archive.proofs.PlaceLaws.{next-offset, record-there, message-slice, file-length, file-offset, file-session}
 use Rattle.archive.proofs.AcceptLaws.{held-is}
 
 module _ (at : ℕ) (d : List ℕ) where
@@ -79,14 +79,17 @@ place-law ms a b few i h =
       entry-session =
           rw (file-index written ms few)
           (sym (field-two (at + 4 * i + 2) (fileOf written ms) (omega arith)) ∙ file-session written ms i h a b few);
+      next-offset = next-offset ms i h;
     }
 
 pub held-by-byte : HeldByByte
 held-by-byte file ms b e =
     let (is, are, few) = held-is file written ms e in
+    let small : length (fileOf written ms) ≤ limit written = rw (← is) few in
     rw is
     (record {
-      index-at = file-index written ms (rw (← is) few);
-      entries-are = file-entries written ms (rw (← is) few) are;
-      places = place-law ms are (rw (← is) b) (rw (← is) few);
+      index-at = file-index written ms small;
+      entries-are = file-entries written ms small are;
+      covered = rw (file-index written ms small, file-entries written ms small are) (sym (length-file written ms));
+      places = place-law ms are (rw (← is) b) small;
     })

@@ -6,7 +6,7 @@ use mathlib.Core.List.{List, [], _∷_, _++_, append-assoc}
 use Prim.Native.Nat.{ℕ, zero, suc, _+_, _*_, _^_, _≤_, _<_}
 use native.Mathlib.Omega.{arith}
 use lib.ListN.{length, take, drop, length-append}
-use lib.Seq.{take-at, slice, split-at}
+use lib.Seq.{take-at, take-suc, slice, split-at}
 use Rattle.wire.specs.Number.{AreBytes, big, numberBytes}
 use Rattle.wire.specs.Part.{part, partOf}
 use Rattle.wire.specs.Header.{fieldAt, sessionAt, sessionOf}
@@ -108,6 +108,21 @@ module _ (ms : List (List ℕ)) (i : ℕ) (h : i < length ms) where
   message-bytes b =
       bytes-right (numberBytes big 2 (length m)) m
       (bytes-left (recordBytes m) behind (bytes-right before (recordBytes m ++ behind) (subst AreBytes records-around b)))
+
+-- a record stands behind the one before it
+pub next-offset : (ms : List (List ℕ)) (i : ℕ) → i < length ms → offsetAt ms (suc i) ≡ offsetAt ms i + 2 + length (messageAt ms i)
+unfolding recordsBytes
+next-offset ms i h =
+    let m = messageAt ms i in
+    let one : recordsBytes (take (suc i) ms) ≡ recordsBytes (take i ms) ++ (recordBytes m ++ []) =
+    ap recordsBytes (take-suc ms i [] h) ∙ records-append (take i ms) (m ∷ []) in
+    omega (
+      arith,
+      ap length one,
+      length-append (recordsBytes (take i ms)) (recordBytes m ++ []),
+      length-append (recordBytes m) [],
+      length-record m,
+    )
 
 -- ---- in the file
 

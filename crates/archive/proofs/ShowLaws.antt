@@ -51,7 +51,7 @@ module _ (file : List ℕ) (f : Form) (ms : List (List ℕ)) where
       record {
         given = (λ _. (omega arith, omega arith), λ _. refl);
         none = (λ e. absurd (not-both (sym e)), λ o. absurd (over (suc i) o (omega arith) (omega arith)));
-        shows = λ _. (refl, rw (back, is) (part-message f ms i h));
+        shows = λ _. (refl, rw back, rw (back, is) (part-message f ms i h));
         refuses = λ e. absurd (not-both (sym e));
       }
 
@@ -124,7 +124,7 @@ module _ (session : ℕ) where
         (record {
           given = λ n. (λ (_, e). subst (FirstWith session ms) e first, λ w. (refl, first-one (suc i) n first w));
           none = (λ e. absurd (not-both (sym e)), λ n. absurd (n i h has));
-          shows = λ e. read-one file f ms is i h .shows refl .1;
+          shows = λ e. let s = read-one file f ms is i h .shows refl in (s .1, s .2);
           refuses = λ e. absurd (not-both (sym e));
         })
 

@@ -10,7 +10,7 @@ use lib.ListN.{length, take, drop, getD, replicate}
 use lib.Seq.{slice}
 use Rattle.wire.specs.Number.{AreBytes}
 use Rattle.wire.specs.Header.{sessionOf}
-use Rattle.wire.specs.Part.{partOf}
+use Rattle.wire.specs.Part.{part, partOf}
 use Rattle.archive.specs.declared.verdict.Verdict.{Verdict}
 use Rattle.archive.specs.declared.verdict.Verdict.the-variants.{Accepted, Full, Trailer, Records, NoMessage, NoRecord}
 use Rattle.archive.specs.declared.form.Form.{Form}
@@ -23,7 +23,7 @@ use Rattle.archive.specs.Records.{messagesIn}
 use Rattle.archive.specs.Adding.{Outcome, adding, closing, keptBy, fileBy}
 use Rattle.archive.specs.Added.{Added, addAll}
 use Rattle.archive.specs.Opening.{indexAt, entriesIn, formIn, holds, archiveOf, openingBy}
-use Rattle.archive.specs.Finding.{messageAt, offsetAt, noneFound, readingBy, findingBy}
+use Rattle.archive.specs.Finding.{messageAt, offsetAt, readingBy, findingBy}
 
 -- ---- the verdicts
 
@@ -117,14 +117,16 @@ pub record PlaceLaw (file : List ℕ) (ms : List (List ℕ)) (i : ℕ) : Type 0 
   pub record-message : slice (offsetAt ms i + 2) (offsetAt ms i + 2 + length (messageAt ms i)) file ≡ messageAt ms i
   pub entry-offset : two file (indexAt file + 4 * i) ≡ offsetAt ms i
   pub entry-session : two file (indexAt file + 4 * i + 2) ≡ sessionOf (messageAt ms i)
+  pub next-offset : offsetAt ms (suc i) ≡ offsetAt ms i + 2 + length (messageAt ms i)
 
 pub record HeldLaw (file : List ℕ) (ms : List (List ℕ)) : Type 0 where
   pub index-at : indexAt file ≡ length (recordsBytes ms)
   pub entries-are : entriesIn file ≡ length ms
+  pub covered : indexAt file + 4 * entriesIn file + 8 ≡ length file
   pub places : (i : ℕ) → i < length ms → PlaceLaw file ms i
 
 -- A9. In an accepted file each record is two bytes of length and the message, each entry that record's offset and Session ID; the trailer
--- says where the index begins and how many entries it has.
+-- says where the index begins and how many entries it has. Records, index and trailer follow each other and cover the file.
 abbrev pub HeldByByte : Type 0
 HeldByByte = (file : List ℕ) (ms : List (List ℕ)) → AreBytes file → archiveOf file ≡ holds written ms → HeldLaw file ms
 
@@ -243,11 +245,16 @@ ClosedAgain = (file : List ℕ) (told : ℕ) → openingBy (archiveOf file) .ver
 
 -- ---- reading and finding
 
+-- a refusal has number 0 and an empty part
+abbrev pub refusalOf : Verdict → Found
+refusalOf v = record { verdict = v; number = 0; message = part 0 0 }
+
 pub record ReadLaw (file : List ℕ) (ms : List (List ℕ)) (n : ℕ) (r : Found) : Type 0 where
   pub given : r .verdict ≡ Accepted ↔ (0 < n) × (n ≤ length ms)
   pub none : r .verdict ≡ NoRecord ↔ (n ≡ 0) ⊎ (length ms < n)
-  pub shows : r .verdict ≡ Accepted → (r .number ≡ n) × (partOf file (r .message) ≡ messageAt ms (n - 1))
-  pub refuses : r .verdict ≡ NoRecord → r ≡ noneFound NoRecord
+  pub shows : r .verdict ≡ Accepted
+      → (r .number ≡ n) × (r .message .at ≡ offsetAt ms (n - 1) + 2) × (partOf file (r .message) ≡ messageAt ms (n - 1))
+  pub refuses : r .verdict ≡ NoRecord → r ≡ refusalOf NoRecord
 
 -- A18. Reading gives the n-th message from 1, as a part of the file, and 54 exactly when there is none.
 abbrev pub ReadsNth : Type 0
@@ -264,8 +271,9 @@ pub record FirstWith (session : ℕ) (ms : List (List ℕ)) (n : ℕ) : Type 0 w
 pub record FindLaw (file : List ℕ) (ms : List (List ℕ)) (session : ℕ) (r : Found) : Type 0 where
   pub given : (n : ℕ) → (r .verdict ≡ Accepted) × (r .number ≡ n) ↔ FirstWith session ms n
   pub none : r .verdict ≡ NoRecord ↔ ((i : ℕ) → i < length ms → sessionOf (messageAt ms i) ≡ session → ⊥)
-  pub shows : r .verdict ≡ Accepted → partOf file (r .message) ≡ messageAt ms (r .number - 1)
-  pub refuses : r .verdict ≡ NoRecord → r ≡ noneFound NoRecord
+  pub shows : r .verdict ≡ Accepted
+      → (r .message .at ≡ offsetAt ms (r .number - 1) + 2) × (partOf file (r .message) ≡ messageAt ms (r .number - 1))
+  pub refuses : r .verdict ≡ NoRecord → r ≡ refusalOf NoRecord
 
 -- A19. Finding gives the first message with a Session ID, and 54 exactly when none has it.
 abbrev pub FindsFirst : Type 0
@@ -275,7 +283,7 @@ FindsFirst = (file : List ℕ) (f : Form) (ms : List (List ℕ)) (session : ℕ)
 -- A20. Reading and finding refuse as opening does, with number 0 and an empty part.
 abbrev pub RefusesAsOpening : Type 0
 RefusesAsOpening = (file : List ℕ) (v : Verdict) (n session : ℕ) → openingBy (archiveOf file) .verdict ≡ v → (v ≡ Accepted → ⊥)
-    → (readingBy n (archiveOf file) ≡ noneFound v) × (findingBy session (archiveOf file) ≡ noneFound v)
+    → (readingBy n (archiveOf file) ≡ refusalOf v) × (findingBy session (archiveOf file) ≡ refusalOf v)
 
 -- ---- one answer
 
