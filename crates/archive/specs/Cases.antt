@@ -103,16 +103,19 @@ pub record OpenCase : Type 0 where
 abbrev isOpen : List ℕ → Opening → OpenCase
 isOpen file o = record { file = file; answer = o }
 
+-- The first and the second message: 50 for want of a byte, accepted with it. Then 53, also before 50, and 52 before 53: a size within a
+-- record, a length past the told size, a size past the end of a file of whole records.
 unfoldable pub addCases : List AddCase
 addCases =
     adds (replicate 29 0) 0 messageA (kept Full 0)
     ∷ adds (replicate 30 0) 0 messageA (kept Accepted 18)
-    ∷ adds (ending (replicate 12 0)) 18 messageA (kept Full 0)
+    ∷ adds (ending (replicate 33 0)) 18 messageA (kept Full 0)
     ∷ adds (ending (replicate 34 0)) 18 messageA (kept Accepted 36)
     ∷ adds (ending (replicate 34 0)) 18 (0x78 ∷ []) (kept NoMessage 0)
-    ∷ adds (replicate 30 0) 0 [] (kept NoMessage 0)
+    ∷ adds [] 0 [] (kept NoMessage 0)
     ∷ adds (ending (replicate 34 0)) 17 [] (kept Records 0)
-    ∷ adds (ending (replicate 34 0)) 53 [] (kept Records 0)
+    ∷ adds (0x00 ∷ 0x11 ∷ (messageA ++ replicate 34 0)) 18 [] (kept Records 0)
+    ∷ adds (ending []) 19 [] (kept Records 0)
     ∷ []
 
 -- 51: nothing, 7 bytes, form number 2, an index that ends past the trailer's start, which a 32-bit sum would not see. 52: no entry, another
