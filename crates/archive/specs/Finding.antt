@@ -36,6 +36,7 @@ abbrev pub readingBy : ℕ → Archive → Found
 readingBy n (refused v) = noneFound v
 readingBy n (holds f ms) = nth ms n
 
+-- a number counted with one message more before it; 0 stays 0
 abbrev pub counted : ℕ → ℕ
 counted zero = zero
 counted (suc n) = suc (suc n)

@@ -24,7 +24,7 @@ pub struct Found {
     pub message: Part,
 }
 
-// The bytes of a message that was found.
+// The bytes of a message that was found; none where its part does not lie in the file.
 pub fn message_part(file: &[u8], found: Found) -> &[u8]
     ensures { λ r. ⌜ now r ≡ partOf (now (file .entry)) (found .message) ⌝ }
 {
@@ -60,14 +60,14 @@ fn nth(file: &[u8], f: Form, index: usize, entries: usize, n: usize) -> Found
 }
 
 // The number from 1 of the first entry with a Session ID, 0 where none has it or no file was opened.
-fn first_of(file: &[u8], f: Form, o: Opening, session: u16) -> usize
+fn first_of(file: &[u8], f: Form, o: Opening, session: SessionId) -> usize
     requires { ⌜ (o ≡ openingBy (archiveOf (now file))) × InForm f (archiveOf (now file)) ⌝ }
-    ensures { λ r. ⌜ r ≡ firstIn session (archiveOf (now (file .entry))) ⌝ }
+    ensures { λ r. ⌜ r ≡ firstIn (session .0) (archiveOf (now (file .entry))) ⌝ }
 {
     let mut i: usize = 0;
     let mut at = o.size + f.offset_width();
     while i < o.entries {
-        if header::two_at(file, at) == session {
+        if header::two_at(file, at) == session.0 {
             return i + 1;
         }
         at += f.entry_size();
@@ -106,6 +106,6 @@ pub fn find(file: &[u8], session: SessionId) -> Found
     ensures { λ r. ⌜ r ≡ findingBy (session .0) (archiveOf (now (file .entry))) ⌝ }
 {
     let o = open::open(file);
-    let n = first_of(file, Form::One, o, session.0);
+    let n = first_of(file, Form::One, o, session);
     shown(file, o, n)
 }

@@ -9,7 +9,7 @@ use Rattle.archive.proofs.find.first_of.Statement.{statement}
 use Rattle.archive.proofs.find.first_of.Tie as tie
 
 abbrev Inv-loop : tie.InvT-loop
-Inv-loop file f o session i₀ at₀ i at = Seeking file f o session i at
+Inv-loop file f o session i₀ at₀ i at = Seeking file f o (session .0) i at
 
 abbrev μ-loop : tie.MeasureT-loop
 μ-loop file f o session i₀ at₀ i at = o .entries - i
@@ -45,7 +45,7 @@ add-result c = search needs
 
 returns : tie.Need-returns Inv-loop μ-loop
 returns c =
-    let v = c .before in
+    let v = c .before .before in
     let l = v .before .before .before in
     let k = l .before .before .before in
     let p = k .before .pre in
@@ -57,7 +57,7 @@ entry-size-requires c κs = search needs
 
 add-at-2 : tie.Need-add-at-2 Inv-loop μ-loop
 add-at-2 c =
-    let v = c .before .before in
+    let v = c .before .before .before in
     let l = v .before .before .before in
     let k = l .before .before .before in
     let p = k .before .pre in
@@ -75,7 +75,7 @@ loop-less c = search needs
 
 loop-again : tie.Need-loop-again Inv-loop μ-loop
 loop-again c =
-    let v = c .before .before in
+    let v = c .before .before .before in
     let l = v .before .before .before in
     let k = l .before .before .before in
     let p = k .before .pre in
