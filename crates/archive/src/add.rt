@@ -13,7 +13,6 @@ use super::form;
 use super::form::Form;
 use super::records;
 use super::verdict::Verdict;
-use wire::header;
 use wire::number;
 use wire::part;
 
@@ -99,10 +98,10 @@ fn put_index(file: &mut [u8], f: Form, size: usize)
     let mut to: usize = size;
     while at < size {
         let k = records::size_at(file, at);
-        let session = header::two_at(file, at + form::LENGTH_LEN + header::SESSION_AT);
+        let session = records::session_at(file, at);
         let w = f.offset_width();
         number::write_number(file, to, w, at as u64);
-        number::write_number(file, to + w, 2, session as u64);
+        number::write_number(file, to + w, 2, session.0 as u64);
         to += f.entry_size();
         at += k;
     }

@@ -43,7 +43,7 @@ fn entry_agrees(file: &[u8], f: Form, to: usize, at: usize) -> bool
     if number::read_number(file, to, w) != at as u64 {
         return false;
     }
-    header::two_at(file, to + w) == header::two_at(file, at + form::LENGTH_LEN + header::SESSION_AT)
+    header::two_at(file, to + w) == records::session_at(file, at).0
 }
 
 // Whether the entries from `size` to `end` are those of the records before `size`. The walk has found them whole, and as many.

@@ -7,9 +7,10 @@ ghost use lib.Seq.{slice};
 ghost use Rattle.wire.specs.Header.{fieldAt};
 ghost use Rattle.archive.specs.Form.{messageFits};
 ghost use Rattle.archive.specs.Records.{messagesTo};
-ghost use Rattle.archive.specs.Walking.{cutSize, walkedFrom};
+ghost use Rattle.archive.specs.Walking.{cutSize, walkedFrom, sessionIn};
 use super::form;
 use wire::header;
+use wire::id::SessionId;
 use wire::number;
 
 // The most bytes of a message: a record's length is sixteen bits.
@@ -60,6 +61,14 @@ pub fn size_at(file: &[u8], at: usize) -> usize
     ensures { λ r. ⌜ r ≡ 2 + fieldAt at 2 (now (file .entry)) ⌝ }
 {
     form::LENGTH_LEN + header::two_at(file, at) as usize
+}
+
+// The Session ID of the message in the record at `at`. For this crate's own walks: they have looked that it is there.
+pub fn session_at(file: &[u8], at: usize) -> SessionId
+    requires { ⌜ at + 14 ≤ length (now file) ⌝ }
+    ensures { λ r. ⌜ r .0 ≡ sessionIn (now (file .entry)) at ⌝ }
+{
+    SessionId(header::two_at(file, at + form::LENGTH_LEN + header::SESSION_AT))
 }
 
 // Walks over the records that the first `size` bytes of a file should be.

@@ -26,14 +26,8 @@ size-at-requires c κs =
     let t = c .before in
     omega (arith, turn-sized (t .before .loop .inv) (t .loop-test .taken) refl)
 
-add-two-at : tie.Need-add-two-at Inv-loop μ-loop
-add-two-at c = search needs
-
-add-two-at-2 : tie.Need-add-two-at-2 Inv-loop μ-loop
-add-two-at-2 c = search needs
-
-two-at-requires : tie.Need-two-at-requires Inv-loop μ-loop
-two-at-requires c κs =
+session-at-requires : tie.Need-session-at-requires Inv-loop μ-loop
+session-at-requires c κs =
     let r = c .before in
     let t = r .before .before in
     omega (arith, turn-sized (t .before .loop .inv) (t .loop-test .taken) (r .size-at .ensures))
@@ -60,9 +54,9 @@ cast-write-number c = search needs
 
 write-number-requires-2 : tie.Need-write-number-requires-2 Inv-loop μ-loop
 write-number-requires-2 c κs =
-    let r = c .before .before .before .before .before .before .before .before in
+    let r = c .before .before .before .before .before .before .before .before .before in
     let t = r .before .before in
-    let same = simp length-sets at (ap length (c .before .before .before .write-number .ensures)) in
+    let same = simp length-sets at (ap length (c .before .before .before .before .write-number .ensures)) in
     (omega (arith, same, turn-room (t .before .loop .inv) (t .loop-test .taken) (r .size-at .ensures)), omega arith)
 
 entry-size-requires : tie.Need-entry-size-requires Inv-loop μ-loop
@@ -70,32 +64,32 @@ entry-size-requires c κs = search needs
 
 add-to : tie.Need-add-to Inv-loop μ-loop
 add-to c =
-    let r = c .before .before .before .before .before .before .before .before .before .before .before .before in
+    let r = c .before .before .before .before .before .before .before .before .before .before .before .before .before in
     let t = r .before .before in
     omega (arith, turn-room (t .before .loop .inv) (t .loop-test .taken) (r .size-at .ensures))
 
 add-at : tie.Need-add-at Inv-loop μ-loop
 add-at c =
-    let r = c .before .before .before .before .before .before .before .before .before .before .before .before in
+    let r = c .before .before .before .before .before .before .before .before .before .before .before .before .before in
     let t = r .before .before in
     omega (arith, turn-sized (t .before .loop .inv) (t .loop-test .taken) (r .size-at .ensures))
 
 loop-less : tie.Need-loop-less Inv-loop μ-loop
 loop-less c =
-    let r = c .before .before .before .before .before .before .before .before .before .before .before .before in
+    let r = c .before .before .before .before .before .before .before .before .before .before .before .before .before in
     let t = r .before .before in
     omega (arith, turn-sized (t .before .loop .inv) (t .loop-test .taken) (r .size-at .ensures))
 
 loop-again : tie.Need-loop-again Inv-loop μ-loop
 loop-again c =
     let second = c .before .before .before in
-    let first = second .before .before .before .before in
+    let first = second .before .before .before .before .before in
     let w = first .before .before in
     let r = w .before .before .before in
     let t = r .before .before in
     index-turn (t .before .loop .inv) (t .loop-test .taken) (r .size-at .ensures)
     (w .offset-width .ensures)
-    (w .before .two-at .ensures)
+    (w .before .session-at .ensures)
     (c .entry-size .ensures)
     (first .write-number .ensures)
     (second .write-number2 .ensures)
@@ -114,9 +108,7 @@ put-index-spec =
     μ-loop
     loop-holds
     size-at-requires
-    add-two-at
-    add-two-at-2
-    two-at-requires
+    session-at-requires
     offset-width-requires
     write-number-requires
     add-write-number

@@ -25,21 +25,15 @@ add-two-at c = search needs
 two-at-requires : tie.Need-two-at-requires
 two-at-requires c κs = search needs
 
-add-two-at-2 : tie.Need-add-two-at-2
-add-two-at-2 c = search needs
-
-add-two-at-3 : tie.Need-add-two-at-3
-add-two-at-3 c = search needs
-
-two-at-requires-2 : tie.Need-two-at-requires-2
-two-at-requires-2 c κs = search needs
+session-at-requires : tie.Need-session-at-requires
+session-at-requires c κs = search needs
 
 returns-2 : tie.Need-returns-2
 unfolding fieldAt
 returns-2 c =
-    let i = c .before .before in
+    let i = c .before .before .before in
     entry-two _ _ _ _ _ _ (i .before .before .offset-width .ensures) (i .before .read-number .ensures .0) (i .if1 .left) _ _
-    (c .before .two-at .ensures) (c .two-at2 .ensures)
+    (c .before .before .two-at .ensures) (c .before .session-at .ensures)
 
 pub entry-agrees-spec : {M : Type 1} → statement M
 entry-agrees-spec =
@@ -50,7 +44,5 @@ entry-agrees-spec =
     returns
     add-two-at
     two-at-requires
-    add-two-at-2
-    add-two-at-3
-    two-at-requires-2
+    session-at-requires
     returns-2)
