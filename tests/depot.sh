@@ -345,5 +345,14 @@ for command in '' 'frob whole' list 'list whole whole' verify take 'take whole' 
 done
 holds 'an archive alone is not added to' cmp a whole
 
+# A name or a number that is longer than the program reads is none that is cut short.
+long=$(zeros 4096 | tr '\0' 0)
+says 'a name of 4,096 bytes' "$long: File name too long" verify "$long"
+says 'a longer name' 'argument 3 is over 4096 bytes' verify whole "${long}1"
+says 'a longer number' 'argument 3 is over 4096 bytes' take whole "${long}1"
+says 'a longer archive to add to' 'argument 2 is over 4096 bytes' add "${long}1" 1
+says 'a longer file to add' 'argument 4 is over 4096 bytes' add a 1 "${long}1"
+holds 'a longer file is not added' cmp a whole
+
 echo "depot: $((ran - failed)) of $ran cases passed"
 [ "$failed" -eq 0 ]

@@ -74,3 +74,8 @@ pub fn unclosed() {
 pub fn usage() {
     phrase::line(ERR, phrase::USAGE, &[]);
 }
+
+// Says that an argument is longer than a name or a number can be.
+pub fn of_argument(i: usize) {
+    phrase::line(ERR, phrase::LONG_ARGUMENT, &[i as u64]);
+}

@@ -14,6 +14,7 @@ mod show;
 mod store;
 
 use archive::find;
+use libc::ENAMETOOLONG;
 use text::file;
 use text::input::Input;
 use text::list;
@@ -121,7 +122,34 @@ fn is_called(command: usize, count: usize) -> bool {
     }
 }
 
+// Whether an argument fits the buffer that it is read into; one that doesn't is said.
+fn fits(i: usize) -> bool {
+    let mut word = io::buffer();
+    os::arg(i, &mut word);
+    if os::errno() == ENAMETOOLONG {
+        complain::of_argument(i);
+        return false;
+    }
+    true
+}
+
+// Whether all arguments fit.
+fn all_fit() -> bool {
+    let count = os::arg_count();
+    let mut i: usize = 1;
+    while i < count {
+        if !fits(i) {
+            return false;
+        }
+        i += 1;
+    }
+    true
+}
+
 fn main() {
+    if !all_fit() {
+        return;
+    }
     let mut word = io::buffer();
     let n = os::arg(1, &mut word);
     let command = list::index(

@@ -59,6 +59,8 @@ pub const UNCLOSED: usize = 25;
 
 pub const USAGE: usize = 26;
 
+pub const LONG_ARGUMENT: usize = 27;
+
 // A byte of a phrase that stands for a number, or itself.
 fn mark(fd: i32, b: u8, n: u64) -> bool {
     match b {
@@ -141,7 +143,8 @@ pub fn write(fd: i32, n: usize, numbers: &[u64]) -> bool {
         an archive to add to is a file by its name, of at most 4091 bytes;\
         standard output cannot be written;\
         the archive cannot be closed;\
-        usage: depot list ARCHIVE, verify ARCHIVE..., take ARCHIVE N, find ARCHIVE SESSION, add ARCHIVE FILE...;";
+        usage: depot list ARCHIVE, verify ARCHIVE..., take ARCHIVE N, find ARCHIVE SESSION, add ARCHIVE FILE...;\
+        argument # is over 4096 bytes;";
     filled(fd, list::nth(phrases, n), numbers)
 }
 
