@@ -38,6 +38,15 @@ misused() { # NAME LAST-LINE ARG...
     echo "FAILED $name: expected 2 '$last' and got $got '$(cat out said | tr '\n' '|')'"
 }
 
+# A command, which may have redirections, prints and says these lines, and its status last.
+answers() { # NAME LINES COMMAND
+    ran=$((ran + 1))
+    got=$(exec 2>&1; eval "$3"; echo "status $?")
+    [ "$got" != "$2" ] || return
+    failed=$((failed + 1))
+    echo "FAILED $1: expected '$(echo "$2" | tr '\n' '|')' and got '$(echo "$got" | tr '\n' '|')'"
+}
+
 # ---- from values to a message that is found, as README.md has it
 
 printf 'session 7\ntemperature -125\n' >cold
@@ -89,6 +98,50 @@ ends 'no file' 1 archive list gone
 ends 'no table' 1 archive take -t gone shift.arc 1
 echo 'shift.arc: verdict 0 size 97 records 77 messages 3 accepted' >lines
 ends 'no file behind an archive' 1 archive verify shift.arc gone
+
+# ---- what can't be written, and odd names
+
+none='gone: No such file or directory
+status 1'
+unwritten='standard output cannot be written
+status 1'
+three='shift.arc: verdict 0 size 97 records 77 messages 3 accepted
+status 0'
+# No file can be written, and what went wrong is told even so. All has been built above; rt would write a file.
+mkdir bin
+printf '#!/bin/sh\n[ "$1" = check ] || exec "%s" "$@"\n' "$(command -v rt)" >bin/rt
+chmod 755 bin/rt
+filled() {
+    trap '' XFSZ
+    ulimit -f 0
+    PATH=$room/bin:$PATH run "$@"
+}
+answers 'a full disk' "$none" 'filled archive list gone'
+answers 'adding on a full disk' "shift.arc.new: File too large
+status 1" 'filled archive add shift.arc 1'
+answers 'values on a full disk' "$unwritten" 'filled archive take -t w.txt shift.arc 1'
+answers 'a missing table on a full disk' "$none" 'filled show gone 1'
+answers 'the archive on a full disk' "$three" 'run archive verify shift.arc'
+answers 'a closed standard output' "$unwritten" 'run archive list shift.arc >&-'
+answers 'a pipe that nobody reads' "$unwritten
+status 0" '{ sleep 1; run archive list shift.arc; echo "status $?" >&2; } | :'
+answers 'a closed standard input' '-: verdict 53 no message: size 0 is not 16 to 65535
+status 1' 'run archive add shift.arc - <&-'
+mkfifo pipe
+answers 'a pipe for an archive' 'run: pipe is a pipe or a device, and an archive to add to is a file
+status 1' 'timeout 20 "$tests/../run" archive add pipe 1'
+odd=$(printf 'odd\n.')
+odd=${odd%.}
+cp shift.arc "$odd"
+ln -s "$odd" odd.link
+answers 'a link to a name that ends in a line end' 'status 0' 'run archive add odd.link 1'
+answers 'is followed' "$odd: verdict 0 size 123 records 99 messages 4 accepted
+status 0" 'run archive verify "$odd"'
+answers 'and no other file is made' 'status 1' '[ -e odd ]'
+here=$(cd "$tests/.." && pwd -P)
+ln -s "$here/run" linked
+answers 'run by a link' "$three" './linked archive verify shift.arc'
+answers 'run where CDPATH is set' "$room/$three" 'cd "${here%/*}/" && CDPATH=$PWD "${here##*/}/run" archive verify "$room/shift.arc"'
 
 misused 'no command' 'run: name a command: list, verify, take, find or add' archive
 misused 'an unknown command' 'run: name a command: list, verify, take, find or add' archive frob shift.arc
