@@ -1,5 +1,5 @@
-// Why a file or a message is refused, in words. The library's verdict decides; here the first thing that is wrong is looked for, in the order in
-// which the library tests.
+// Why a file or a message is refused, in words. The library's verdict decides; here the first thing that is wrong is looked for, in the
+// order in which the library tests.
 
 ghost use Prim.Native.Nat.{_<_};
 use super::complain;

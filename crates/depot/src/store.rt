@@ -1,5 +1,5 @@
-// Adding files to an archive on disk. The new archive is written whole to a file of its own, which then takes the archive's name; that file's name
-// is the archive's with .new behind it, and whoever makes it is the only one who adds.
+// Adding files to an archive on disk. The new archive is written whole to a file of its own, which then takes the archive's name; that
+// file's name is the archive's with .new behind it, and whoever makes it is the only one who adds.
 
 use super::complain;
 use super::mode;
@@ -14,8 +14,8 @@ use text::input::Input;
 use text::slice;
 use wire::part;
 
-// What was done so far: whether all went well, the size of the records or of the file in the buffer, and the mode of the archive's file, 0 where
-// there is none.
+// What was done so far: whether all went well, the size of the records or of the file in the buffer, and the mode of the archive's file,
+// 0 where there is none.
 struct Work {
     ok: bool,
     size: usize,
