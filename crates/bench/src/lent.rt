@@ -27,7 +27,8 @@ pub fn read_often(
     rows
 }
 
-// Writes the message of the first n of the rows as often as is left, and gives the last answer. The program's count of rows is never over 64.
+// Writes the message of the first n of the rows as often as is left, and gives the last answer. For this program alone, whose count of rows is
+// never over 64.
 pub fn write_often(
     h: Header,
     rows: [Row; 64],

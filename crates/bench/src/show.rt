@@ -1,4 +1,4 @@
-// The answers, as the program in C writes them, so that the two can be compared byte for byte.
+// The answers, as the program in C writes them, so that the two can be compared byte for byte. No contract can speak of output.
 
 use super::input;
 use message::rows::Answered;

@@ -1,4 +1,4 @@
-// Messages on standard error: the file, the verdict where there is one, and what is wrong.
+// Messages on standard error: the file, the verdict where there is one, and what is wrong. No contract can speak of output: it is run.
 
 use super::phrase;
 use archive::verdict::Verdict;

@@ -1,18 +1,23 @@
-// What stands where in a file, for any bytes: the trailer's fields, and the record at a place.
+// What stands where in a file, for any bytes: the trailer's fields, and the record at a place. For this program's own files.
 
-ghost use Prim.Native.Nat.{_+_, _<_, _≤_};
+ghost use mathlib.Core.Path.{_≡_};
+ghost use Prim.Native.Nat.{_+_, _*_, _<_, _≤_};
+ghost use Rattle.wire.specs.Part.{part, partOf};
+ghost use Rattle.archive.specs.Opening.{trailerAt};
+ghost use Rattle.depot.specs.Layout.{fieldOr, TrailerOf};
 use archive::form;
 use archive::form::Form;
-use text::slice;
 use wire::header;
 use wire::number;
+use wire::part;
+use wire::part::Part;
 
 // The form of the files.
 pub const FORM: Form = Form::One;
 
 // The number of two bytes at a place, and 0 past the end.
 pub fn two_at(d: &[u8], at: usize) -> usize
-    ensures { λ r. ⌜ r < 65536 ⌝ }
+    ensures { λ r. ⌜ (r ≡ fieldOr at 2 (now (d .entry))) × (r < 65536) ⌝ }
 {
     if d.len() < at {
         return 0;
@@ -25,7 +30,7 @@ pub fn two_at(d: &[u8], at: usize) -> usize
 
 // The same of four bytes.
 pub fn four_at(d: &[u8], at: usize) -> usize
-    ensures { λ r. ⌜ r < 4294967296 ⌝ }
+    ensures { λ r. ⌜ (r ≡ fieldOr at 4 (now (d .entry))) × (r < 4294967296) ⌝ }
 {
     if d.len() < at {
         return 0;
@@ -36,10 +41,10 @@ pub fn four_at(d: &[u8], at: usize) -> usize
     number::read_number(d, at, 4) as usize
 }
 
-// The bytes of an index of so many entries.
+// The bytes of an index of so many entries. For this program's own words: it counts no more entries than two bytes hold and one.
 pub fn index_size(entries: usize) -> usize
     requires { ⌜ entries ≤ 65536 ⌝ }
-    ensures { λ r. ⌜ r ≤ 262144 ⌝ }
+    ensures { λ r. ⌜ (r ≡ 4 * entries) × (r ≤ 262144) ⌝ }
 {
     FORM.entry_size() * entries
 }
@@ -52,34 +57,46 @@ pub struct Trailer {
     pub form: usize,
 }
 
+// Where the trailer starts: 0 in a file that is shorter.
+fn trailer_at(file: &[u8]) -> usize
+    ensures { λ r. ⌜ r ≡ trailerAt (now (file .entry)) ⌝ }
+{
+    if file.len() < form::TRAILER_LEN {
+        return 0;
+    }
+    file.len() - form::TRAILER_LEN
+}
+
 // The trailer of a file that has one.
 pub fn trailer_of(file: &[u8]) -> Trailer
-    ensures { λ r. ⌜ (r .size < 4294967296) × (r .entries < 65536) ⌝ }
+    ensures { λ r. ⌜ TrailerOf (now (file .entry)) r × (r .size < 4294967296) × (r .entries < 65536) ⌝ }
 {
-    let mut at: usize = 0;
-    if form::TRAILER_LEN <= file.len() {
-        at = file.len() - form::TRAILER_LEN;
-    }
-    let t = slice::between(file, at, file.len());
+    let at = trailer_at(file);
     Trailer {
         at: at,
-        size: four_at(t, 0),
-        entries: two_at(t, form::ENTRIES_AT),
-        form: two_at(t, form::FORM_AT),
+        size: four_at(file, at),
+        entries: two_at(file, at + form::ENTRIES_AT),
+        form: two_at(file, at + form::FORM_AT),
     }
 }
 
-// Where the record at a place ends, by its length.
+// Where the record at a place ends, by its length. For this program's own walks, whose places have at most 32 bits.
 pub fn record_end(file: &[u8], at: usize) -> usize
     requires { ⌜ at < 4294967296 ⌝ }
-    ensures { λ r. ⌜ (at + 2 ≤ r) × (r < 4295032834) ⌝ }
+    ensures { λ r. ⌜ (r ≡ at + 2 + fieldOr at 2 (now (file .entry)))
+        × (at + 2 ≤ r) × (r < 4295032834) ⌝ }
 {
     at + form::LENGTH_LEN + two_at(file, at)
 }
 
-// The message in the record at a place.
+// The message in the record at such a place. For this program's own walks too.
 pub fn message_at(file: &[u8], at: usize) -> &[u8]
     requires { ⌜ at < 4294967296 ⌝ }
+    ensures { λ r. ⌜ now r ≡ partOf (now (file .entry)) (part (at + 2) (fieldOr at 2 (now (file .entry)))) ⌝ }
 {
-    slice::between(file, at + form::LENGTH_LEN, record_end(file, at))
+    let message = Part {
+        at: at + form::LENGTH_LEN,
+        len: two_at(file, at),
+    };
+    part::part_of(file, message)
 }

@@ -18,7 +18,7 @@ mul-result c =
 returns : tie.Need-returns
 returns c =
     let e : c .entry-size .result * c .before .args .entries ≡ 4 * c .before .args .entries = rw (c .entry-size .ensures) in
-    omega arith
+    (e, omega arith)
 
 pub index-size-spec : {M : Type 1} → statement M
 index-size-spec = tie.close (tie.spec entry-size-requires mul-result returns)
