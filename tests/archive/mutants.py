@@ -8,11 +8,13 @@ answer from it. A wrong program that no case finds is printed last and makes the
 """
 import os
 import sys
-import types
 
 import answer
 import archive
 import gen
+
+sys.path.insert(0, os.path.join(os.path.dirname(os.path.abspath(__file__)), "..", "shared"))
+import mutation  # noqa: E402
 
 # ---- Words of archive.py that the edits change
 
@@ -272,16 +274,6 @@ EDITS = (  # what is wrong; archive.py's words; the wrong words
 )
 
 
-def with_edit(source, right, wrong):
-    if source.count(right) != 1:
-        sys.exit(f"these words must stand once in archive.py:\n{right}")
-    module = types.ModuleType("archive")
-    sys.modules["archive"] = module
-    exec(compile(source.replace(right, wrong), "archive.py", "exec"), module.__dict__)
-    sys.modules["archive"] = archive
-    return module
-
-
 def answers_of(cases, program):
     answer.archive = program
     found = []
@@ -296,21 +288,7 @@ def answers_of(cases, program):
 
 def main():
     seed, count = int(sys.argv[1]), int(sys.argv[2])
-    with open(os.path.abspath(archive.__file__)) as file:
-        source = file.read()
-    cases = gen.make_cases(seed, count)
-    right = answers_of(cases, archive)
-    missed = []
-    for what, old, new in EDITS:
-        wrong = answers_of(cases, with_edit(source, old, new))
-        found = sum(a != b for a, b in zip(right, wrong))
-        print(f"{found:6} of {len(right)}  {what}")
-        if found == 0:
-            missed.append(what)
-    print(f"{len(EDITS) - len(missed)} wrong programs found, {len(missed)} missed")
-    for what in missed:
-        print("missed:", what)
-    sys.exit(bool(missed))
+    mutation.run(archive, EDITS, gen.make_cases(seed, count), answers_of)
 
 
 if __name__ == "__main__":

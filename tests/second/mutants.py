@@ -8,11 +8,13 @@ answer from it. A wrong program that no case finds is printed last and makes the
 """
 import os
 import sys
-import types
 
 import answer
 import gen
 import sip
+
+sys.path.insert(0, os.path.join(os.path.dirname(os.path.abspath(__file__)), "..", "shared"))
+import mutation  # noqa: E402
 
 EDITS = (  # what is wrong; sip.py's words; the wrong words
     ("refuses everything", "walk = Walk(payload, table)\n", "return PayloadReading(24, 0, 0, first_rows_absent(table, lent_rows))\n    walk = None\n"),
@@ -131,17 +133,6 @@ EDITS = (  # what is wrong; sip.py's words; the wrong words
 )
 
 
-def with_edit(source, right, wrong):
-    if source.count(right) != 1:
-        sys.exit(f"these words must stand once in sip.py:\n{right}")
-    module = types.ModuleType("sip")
-    module.__file__ = sip.__file__
-    sys.modules["sip"] = module
-    exec(compile(source.replace(right, wrong), "sip.py", "exec"), module.__dict__)
-    sys.modules["sip"] = sip
-    return module
-
-
 def answers_of(lines, program):
     answer.sip = program
     answerer = answer.Answerer()
@@ -159,21 +150,7 @@ def answers_of(lines, program):
 
 def main():
     seed, count = int(sys.argv[1]), int(sys.argv[2])
-    with open(os.path.abspath(sip.__file__)) as file:
-        source = file.read()
-    lines = gen.make_cases(seed, count)
-    right = answers_of(lines, sip)
-    missed = []
-    for what, old, new in EDITS:
-        wrong = answers_of(lines, with_edit(source, old, new))
-        found = sum(a != b for a, b in zip(right, wrong))
-        print(f"{found:6} of {len(right)}  {what}")
-        if found == 0:
-            missed.append(what)
-    print(f"{len(EDITS) - len(missed)} wrong programs found, {len(missed)} missed")
-    for what in missed:
-        print("missed:", what)
-    sys.exit(bool(missed))
+    mutation.run(sip, EDITS, gen.make_cases(seed, count), answers_of)
 
 
 if __name__ == "__main__":
