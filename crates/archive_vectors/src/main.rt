@@ -1,5 +1,7 @@
 // Runs the archive cases that standard input has and writes what the library answers, both in the form of docs/CASES.md.
 
+#![tactic(auto)]
+
 ghost use Rattle.std.specs.Prelude.{◌≡◌, ◌+◌, ◌≤◌, length};
 
 use archive::add::Kept;

@@ -1,4 +1,6 @@
 // Reads or writes one message as often as its input says, and writes the last answer. bench/run counts the instructions that this takes.
+#![tactic(auto)]
+
 mod input;
 mod lent;
 mod show;

@@ -3,6 +3,8 @@
 // A slice crosses as a pointer and a count of elements. What rows and tables cross as is in `table` and `rows`. No function has a premise:
 // numbers that no table has get verdict 1, too few value rows 2, and a value row that says no value 30.
 
+#![tactic(auto)]
+
 mod head;
 mod rows;
 mod table;

@@ -5,6 +5,8 @@
 // take-line and find-line write the message behind its line. A Rattle program has no exit status: whatever went wrong stands on standard
 // error, and nothing else does.
 
+#![tactic(auto)]
+
 mod complain;
 mod layout;
 mod mode;

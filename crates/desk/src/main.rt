@@ -4,6 +4,8 @@
 //
 // A Rattle program has no exit status: whatever went wrong stands on standard error, and nothing else does.
 
+#![tactic(auto)]
+
 mod complain;
 mod files;
 mod hex;

@@ -1,5 +1,7 @@
 // Tagged payloads: the type table, the value rows, reading and writing.
 
+#![tactic(auto)]
+
 mod columns;
 mod emit;
 mod judge;

@@ -3,6 +3,8 @@
 // A datagram has at most 65,535 bytes. A longer input, or one that can't be read, prints nothing but a message on standard error. A Rattle
 // program has no exit status: that nothing stands on standard output tells that no datagram was shown.
 
+#![tactic(auto)]
+
 mod show;
 mod table_w;
 

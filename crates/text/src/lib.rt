@@ -3,6 +3,8 @@
 //
 // No function that a program calls has a premise: whatever stands in a text is answered.
 
+#![tactic(auto)]
+
 pub mod big;
 pub mod decimal;
 pub mod file;

@@ -1,4 +1,6 @@
 // Runs the cases that standard input has and writes what the library answers, both in the form of docs/CASES.md.
+#![tactic(auto)]
+
 mod input;
 mod lent;
 mod show;

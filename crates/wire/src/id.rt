@@ -1,13 +1,13 @@
 // The four IDs of a header. All are sixteen bits wide, and each is a kind of its own, so that none can stand for another.
 
-#[derive(Drop)]
+#[derive(Clone, Copy)]
 pub struct ServiceId(pub u16);
 
-#[derive(Drop)]
+#[derive(Clone, Copy)]
 pub struct MethodId(pub u16);
 
-#[derive(Drop)]
+#[derive(Clone, Copy)]
 pub struct ClientId(pub u16);
 
-#[derive(Drop)]
+#[derive(Clone, Copy)]
 pub struct SessionId(pub u16);

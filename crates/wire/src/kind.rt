@@ -12,7 +12,7 @@ pub const ARRAY: usize = 13;
 pub const STRUCT: usize = 14;
 
 // A kind's bytes, 0 where a length field tells them, and its wire type.
-#[derive(Drop)]
+#[derive(Clone, Copy)]
 pub struct Kind {
     pub size: u8,
     pub wire: u8,

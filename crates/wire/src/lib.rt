@@ -1,5 +1,7 @@
 // Numbers, tags, kinds, strings, the header's layout, parts and verdicts: what every layer above shares. Nothing here knows a type table.
 
+#![tactic(auto)]
+
 pub mod header;
 pub mod id;
 pub mod kind;

@@ -3,7 +3,7 @@
 ghost use Rattle.std.specs.Prelude.{◌≡◌};
 ghost use Rattle.wire.specs.Verdict.{verdict_number, return_code};
 
-#[derive(Drop)]
+#[derive(Clone, Copy)]
 pub enum Verdict {
     Accepted,
     Table,
@@ -31,7 +31,7 @@ pub enum Verdict {
 }
 
 // The return code that a verdict answers, or none.
-#[derive(Drop)]
+#[derive(Clone, Copy)]
 pub enum ReturnCode {
     Code(u8),
     None,
