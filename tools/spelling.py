@@ -14,7 +14,7 @@ import sys
 
 DECLARED = re.compile(r"^(?:(?:abbrev|unfoldable|pub|axiom)\s+)*([^\s:(){}]+)(?:\s+\{[^}]*\})*\s*:(?!=)")
 SHAPE = re.compile(r"^(?:pub )?(data|record) ([^\s:(){}]+)")
-FIELD = re.compile(r"^  (?:pub )?([^\s:(){}]+)\s*:(?!=)")
+FIELD = re.compile(r"^ +(?:(?:abbrev|unfoldable|pub)\s+)*([^\s:(){}]+)\s*:(?!=)")
 TOKEN = re.compile(r"[^\s(){}\[\].;,\"`:]+")
 IMPORT = re.compile(r"use ([^\s{}]+?)\.\{([^}]*)\}", re.S)
 STEP = re.compile(r"(?:(?<![\w'])c|before)\.$")

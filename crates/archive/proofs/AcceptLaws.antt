@@ -34,7 +34,7 @@ use Rattle.archive.specs.Opening.{
 }
 use Rattle.archive.specs.Promises.{AcceptedExactly, NoTrailer, OpenedWhen, OpenVerdicts, OpenLaw, OpenAnswers}
 use Rattle.archive.proofs.FormLaws.{form_of_lem, form_back, one_form}
-use Rattle.archive.proofs.LeftLaws.{told-messages}
+use Rattle.archive.proofs.LeftLaws.{told_messages}
 use Rattle.archive.proofs.SameLaws.{same_is}
 use Rattle.archive.proofs.FileLaws.{file_form, file_holds}
 
@@ -71,8 +71,8 @@ module _ (file : List ℕ) where
         let z : ◌≡◌ {A = ℕ} 0 1 = cc in
         omega arith
 
-    checked-opens : (NoTrailer file → ⊥) → archive_of file ≡ checked file f found → Opens file (checked file f found)
-    checked-opens has = go found refl
+    checked_opens : (NoTrailer file → ⊥) → archive_of file ≡ checked file f found → Opens file (checked file f found)
+    checked_opens has = go found refl
       where
         by : (ms : List (List ℕ)) → AreMessages ms → (b : Bool) → same file (file_of f ms) ≡ b
             → archive_of file ≡ pick b (holds f ms) (refused Records) → Opens file (pick b (holds f ms) (refused Records))
@@ -81,7 +81,7 @@ module _ (file : List ℕ) where
 
         go : (r : Option (List (List ℕ))) → found ≡ r → archive_of file ≡ checked file f r → Opens file (checked file f r)
         go none er e = no_records has (of_none e)
-        go (some ms) er e = by ms (told-messages file (index_at file) ms er) (same file (file_of f ms)) refl e
+        go (some ms) er e = by ms (told_messages file (index_at file) ms er) (same file (file_of f ms)) refl e
 
   opens : Opens file (archive_of file)
   unfolding archive_of outgrows
@@ -91,7 +91,7 @@ module _ (file : List ℕ) where
           → archive_of file ≡ pick b (refused Trailer) (checked file One found)
           → Opens file (pick b (refused Trailer) (checked file One found))
       ends l n few true eb e = no_trailer (inr (inr (inr (ltb-true _ _ eb))))
-      ends l n few false eb e = checked-opens One (ap form_of n) few (has_trailer l n few (ltb-false _ _ eb)) e
+      ends l n few false eb e = checked_opens One (ap form_of n) few (has_trailer l n few (ltb-false _ _ eb)) e
 
       long : 8 ≤ length file → form_in file ≡ 1 → (b : Bool) → ltb 65535 (length file) ≡ b
           → archive_of file ≡ pick (or b past) (refused Trailer) (checked file One found)

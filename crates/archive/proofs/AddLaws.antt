@@ -40,7 +40,7 @@ use Rattle.archive.specs.Adding.{Outcome, refused, stores, is_full, adding, clos
 use Rattle.archive.specs.Walking.{walked_from, is_whole, listed}
 use Rattle.archive.proofs.FormLaws.{entries_long}
 use Rattle.archive.proofs.RecordLaws.{length_record, length_index, length_closing}
-use Rattle.archive.proofs.LeftLaws.{walked_none, walked_some, walked_count, told_size, told-few, cut-records}
+use Rattle.archive.proofs.LeftLaws.{walked_none, walked_some, walked_count, told_size, told_few, cut_records}
 
 -- ---- 50
 
@@ -119,72 +119,72 @@ module _ (old : List ℕ) (told : ℕ) (w : Walked) (we : w ≡ walked_from 0 (m
     not_found : messages_to old told ≡ none
     not_found = walked_none (messages_to old told) w we wh
 
-    pub add-records : (m : List ℕ) → adding old told m ≡ refused Records
+    pub add_records : (m : List ℕ) → adding old told m ≡ refused Records
     unfolding adding
-    add-records m = rw not_found
+    add_records m = rw not_found
 
-    pub close-records : closing old told ≡ refused Records
+    pub close_records : closing old told ≡ refused Records
     unfolding closing
-    close-records = rw not_found
+    close_records = rw not_found
 
   module _ (wh : w.whole ≡ true) where
-    found-is : messages_to old told ≡ some found
-    found-is = walked_some (messages_to old told) w we wh
+    found_is : messages_to old told ≡ some found
+    found_is = walked_some (messages_to old told) w we wh
 
     count_is : w.count ≡ length found
     count_is = walked_count (messages_to old told) w we
 
     -- so few that one more is no wrap
-    pub count-few : w.count ≤ told
-    count-few = omega (arith, count_is, told-few old told found found-is)
+    pub count_few : w.count ≤ told
+    count_few = omega (arith, count_is, told_few old told found found_is)
 
     -- 53
-    pub add-no-message : (m : List ℕ) → message_fits m ≡ false → adding old told m ≡ refused NoMessage
+    pub add_no_message : (m : List ℕ) → message_fits m ≡ false → adding old told m ≡ refused NoMessage
     unfolding adding
-    add-no-message m e = rw (found-is, e)
+    add_no_message m e = rw (found_is, e)
 
     -- 50, or the record
     module _ (m : List ℕ) (e : message_fits m ≡ true) where
-      adding-by : adding old told m
+      adding_by : adding old told m
           ≡ pick (is_full written (length old) (told + record_size m) (w.count + 1)) (refused Full) (stores (record_bytes m))
       unfolding adding
-      adding-by = let n : w.count + 1 ≡ suc (length found) = omega (arith, count_is) in rw (found-is, e, n)
+      adding_by = let n : w.count + 1 ≡ suc (length found) = omega (arith, count_is) in rw (found_is, e, n)
 
-      pub add-full : is_full written (length old) (told + record_size m) (w.count + 1) ≡ true → adding old told m ≡ refused Full
-      add-full h = adding-by ∙ rw h
+      pub add_full_lem : is_full written (length old) (told + record_size m) (w.count + 1) ≡ true → adding old told m ≡ refused Full
+      add_full_lem h = adding_by ∙ rw h
 
-      pub add-over : limit written < told → adding old told m ≡ refused Full
-      add-over h = add-full (sym (full_size written (length old) (told + record_size m) (w.count + 1) (omega arith)))
+      pub add_over : limit written < told → adding old told m ≡ refused Full
+      add_over h = add_full_lem (sym (full_size written (length old) (told + record_size m) (w.count + 1) (omega arith)))
 
       pub add_stores : is_full written (length old) (told + record_size m) (w.count + 1) ≡ false → adding old told m ≡ stores (record_bytes m)
-      add_stores h = adding-by ∙ rw h
+      add_stores h = adding_by ∙ rw h
 
     -- 50, or index and trailer
-    closing-by : closing old told ≡ pick (is_full written (length old) told w.count) (refused Full) (stores (closing_bytes written found))
+    closing_by : closing old told ≡ pick (is_full written (length old) told w.count) (refused Full) (stores (closing_bytes written found))
     unfolding closing
-    closing-by = rw (found-is, count_is)
+    closing_by = rw (found_is, count_is)
 
-    pub close-full : is_full written (length old) told w.count ≡ true → closing old told ≡ refused Full
-    close-full h = closing-by ∙ rw h
+    pub close_full_lem : is_full written (length old) told w.count ≡ true → closing old told ≡ refused Full
+    close_full_lem h = closing_by ∙ rw h
 
     pub close_stores : is_full written (length old) told w.count ≡ false → closing old told ≡ stores (closing_bytes written found)
-    close_stores h = closing-by ∙ rw h
+    close_stores h = closing_by ∙ rw h
 
-    pub index-room : is_full written (length old) told w.count ≡ false
+    pub index_room : is_full written (length old) told w.count ≡ false
         → (is_whole (messages_to old told) ≡ true) × (told + entry_size written * length found ≤ length old)
-    index-room h = (rw found-is, omega (arith, count_is, not_full written (length old) told w.count h))
+    index_room h = (rw found_is, omega (arith, count_is, not_full written (length old) told w.count h))
 
-    records-size : AreBytes old → length (records_bytes found) ≡ told
-    records-size b = told_size old told found (cut-records old told found found-is b)
+    records_size : AreBytes old → length (records_bytes found) ≡ told
+    records_size b = told_size old told found (cut_records old told found found_is b)
 
     module _ {e : ℕ} (ee : e ≡ entry_size written) where
-      pub closing-stores : AreBytes old → {l1 l2 : List ℕ} → l1 ≡ sets old told (index_bytes written 0 found)
+      pub closing_stores : AreBytes old → {l1 l2 : List ℕ} → l1 ≡ sets old told (index_bytes written 0 found)
           → l2 ≡ sets l1 (told + e * w.count) (trailer_bytes written told w.count)
           → l2 ≡ sets old told (closing_bytes written found)
       unfolding closing_bytes
-      closing-stores b e1 e2 =
+      closing_stores b e1 e2 =
           e2
-          ∙ rw (e1, ee, count_is, records-size b)
+          ∙ rw (e1, ee, count_is, records_size b)
           (two_stores old (index_bytes written 0 found) (trailer_bytes written told (length found)) told (entry_size written * length found)
           (length_index written 0 found))
 
@@ -197,11 +197,11 @@ module _ (old : List ℕ) (told : ℕ) (w : Walked) (we : w ≡ walked_from 0 (m
 
       -- the whole fits, and no sum wraps
       module _ (h : is_full written (length old) told w.count ≡ false) where
-        pub closing-few : told + e * w.count + trailer_len ≤ limit written
-        closing-few = rw ee (not_full written (length old) told w.count h).1
+        pub closing_few : told + e * w.count + trailer_len ≤ limit written
+        closing_few = rw ee (not_full written (length old) told w.count h).1
 
-        pub trailer-room : {l1 : List ℕ} → l1 ≡ sets old told (index_bytes written 0 found) → told + e * w.count + trailer_len ≤ length l1
-        trailer-room e1 =
+        pub trailer_room : {l1 : List ℕ} → l1 ≡ sets old told (index_bytes written 0 found) → told + e * w.count + trailer_len ≤ length l1
+        trailer_room e1 =
             rw (e1, length-sets old told (index_bytes written 0 found), ee) (not_full written (length old) told w.count h).0
 
 pub added_size : (told : ℕ) (m : List ℕ) → record { verdict = Accepted; size = told + record_size m } ≡ kept_by told (stores (record_bytes m))

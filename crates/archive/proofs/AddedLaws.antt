@@ -176,10 +176,10 @@ module _ (file : List ℕ) (told : ℕ) (old ms : List (List ℕ)) (r : RecordsT
 
   added_law : AddedLaw file told old ms
   added_law = record {
-    all-accepted = added_all.verdicts_are;
-    records-size = sym (told_size a.file a.size all added_all.after.whole);
+    all_accepted = added_all.verdicts_are;
+    records_size = sym (told_size a.file a.size all added_all.after.whole);
     closes = kept_is (kept_by a.size o) Accepted (length whole) closed_verdict closed_size;
-    file-after = after_is;
+    file_after = after_is;
     opens = added_opens;
     reads = archive_reads;
   }

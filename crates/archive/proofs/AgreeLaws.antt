@@ -21,7 +21,7 @@ use Rattle.archive.specs.Walking.{cut_size, is_whole, listed, session_in, entry_
 use Rattle.archive.proofs.ListLaws.{slice_split}
 use Rattle.archive.proofs.FormLaws.{limit_fits}
 use Rattle.archive.proofs.RecordLaws.{length_entry}
-use Rattle.archive.proofs.WalkLaws.{cut_end, size_of_lem, cut-sized, size-there, session-there}
+use Rattle.archive.proofs.WalkLaws.{cut_end, size_of_lem, cut_sized, size_there, session_there}
 use Rattle.archive.proofs.LeftLaws.{messages_from, next_fits, next_whole, next_listed, from_start}
 use Rattle.archive.proofs.SameLaws.{same_append, same_number}
 
@@ -109,11 +109,11 @@ module _ (file : List ℕ) (f : Form) (size end : ℕ) (told : Told file f size 
       record_there : record_fits (slice at size file) ≡ true
       record_there = next_fits file at size more within g.whole
 
-      record-size : cut_size (slice at size file) ≡ 2 + field_at at 2 file
-      record-size = size-there file at size more within record_there
+      record_size_lem : cut_size (slice at size file) ≡ 2 + field_at at 2 file
+      record_size_lem = size_there file at size more within record_there
 
-      pub record-sized : (18 ≤ 2 + field_at at 2 file) × (at + (2 + field_at at 2 file) ≤ size)
-      record-sized = rw record-size at (cut-sized file at size more within record_there)
+      pub record_sized : (18 ≤ 2 + field_at at 2 file) × (at + (2 + field_at at 2 file) ≤ size)
+      record_sized = rw record_size_lem at (cut_sized file at size more within record_there)
 
       abbrev m : List ℕ
       m = message_in (slice at size file)
@@ -121,40 +121,40 @@ module _ (file : List ℕ) (f : Form) (size end : ℕ) (told : Told file f size 
       abbrev then : ℕ
       then = at + cut_size (slice at size file)
 
-      then-ends : to + entry_size f + entry_size f * length (listed (messages_from file then size)) ≡ end
-      then-ends = omega (arith, g.ends, ap (λ ms. entry_size f * length ms) (next_listed file at size more within g.whole))
+      then_ends : to + entry_size f + entry_size f * length (listed (messages_from file then size)) ≡ end
+      then_ends = omega (arith, g.ends, ap (λ ms. entry_size f * length ms) (next_listed file at size more within g.whole))
 
-      pub entry-room : to + entry_size f ≤ end
-      entry-room = omega (arith, then-ends)
+      pub entry_room : to + entry_size f ≤ end
+      entry_room = omega (arith, then_ends)
 
       module _ (are : AreBytes file) where
-        entry-left : same (slice to end file) (index_bytes f at (listed (messages_from file at size)))
+        entry_left : same (slice to end file) (index_bytes f at (listed (messages_from file at size)))
             ≡ and (entry_agrees file f to at)
             (same (slice (to + entry_size f) end file) (index_bytes f then (listed (messages_from file then size))))
         unfolding index_bytes
-        entry-left =
+        entry_left =
             let l : length (slice to (to + entry_size f) file) ≡ length (entry_bytes f at m) =
-            length-slice to (to + entry_size f) file (omega (arith, entry-room)) ∙ omega (arith, length_entry f at m) in
+            length-slice to (to + entry_size f) file (omega (arith, entry_room)) ∙ omega (arith, length_entry f at m) in
             rw (
               next_listed file at size more within g.whole,
               ← size_of_lem file at size more within record_there,
-              slice_split to (to + entry_size f) end file (omega arith) entry-room,
+              slice_split to (to + entry_size f) end file (omega arith) entry_room,
               same_append (slice to (to + entry_size f) file) (entry_bytes f at m) (slice (to + entry_size f) end file) _ l,
-              entry_same file are f to at m (omega (arith, entry-room)) (omega (arith, record-sized)) (omega (arith, limit_fits f))
-                  (session-there file at size more within record_there),
+              entry_same file are f to at m (omega (arith, entry_room)) (omega (arith, record_sized)) (omega (arith, limit_fits f))
+                  (session_there file at size more within record_there),
             )
 
-        pub going-no : entry_agrees file f to at ≡ false
+        pub going_no : entry_agrees file f to at ≡ false
             → false ≡ same (slice size end file) (index_bytes f 0 (listed (messages_to file size)))
-        going-no e = sym (g.left ∙ entry-left ∙ rw e)
+        going_no e = sym (g.left ∙ entry_left ∙ rw e)
 
         pub going_on : entry_agrees file f to at ≡ true → (k n : ℕ) → k ≡ 2 + field_at at 2 file → n ≡ entry_size f
             → Going file f size end (at + k) (to + n)
         going_on e k n ek en =
-            rw (ek, ← record-size, en)
+            rw (ek, ← record_size_lem, en)
             (record {
-              under = (cut-sized file at size more within record_there).1;
+              under = (cut_sized file at size more within record_there).1;
               whole = next_whole file at size more within g.whole;
-              ends = then-ends;
-              left = g.left ∙ entry-left ∙ rw e;
+              ends = then_ends;
+              left = g.left ∙ entry_left ∙ rw e;
             })

@@ -17,8 +17,8 @@ use Rattle.archive.specs.Form.{limit, written, message_fits, message_most, AreMe
 use Rattle.archive.specs.Finding.{offset_at}
 use Rattle.archive.specs.Promises.{two, four, MessageExactly, SessionByByte, TrailerByByte, PlaceLaw, HeldByByte}
 use Rattle.archive.proofs.RecordLaws.{length_file, message_least, message_most_lem}
-use Rattle.archive.proofs.FileLaws.{file-index, file-entries}
-use Rattle.archive.proofs.PlaceLaws.{next_offset, record_there, message_slice, file-length, file-offset, file-session}
+use Rattle.archive.proofs.FileLaws.{file_index, file_entries}
+use Rattle.archive.proofs.PlaceLaws.{next_offset, record_there, message_slice, file_length, file_offset, file_session}
 use Rattle.archive.proofs.AcceptLaws.{held_is}
 
 module _ (at : ℕ) (d : List ℕ) where
@@ -71,14 +71,14 @@ place_law ms a b few i h =
     let entry : at + 4 * i + 4 ≤ length (file_of written ms) = omega (arith, length_file written ms) in
     record {
       record_length = sym (field_two (offset_at ms i) (file_of written ms) (omega (arith, record_there written ms i h)))
-          ∙ file-length written ms i h a;
+          ∙ file_length written ms i h a;
       record_message = message_slice written ms i h;
       entry_offset =
-          rw (file-index written ms few)
-          (sym (field_two (at + 4 * i) (file_of written ms) (omega arith)) ∙ file-offset written ms i h a b few);
+          rw (file_index written ms few)
+          (sym (field_two (at + 4 * i) (file_of written ms) (omega arith)) ∙ file_offset written ms i h a b few);
       entry_session =
-          rw (file-index written ms few)
-          (sym (field_two (at + 4 * i + 2) (file_of written ms) (omega arith)) ∙ file-session written ms i h a b few);
+          rw (file_index written ms few)
+          (sym (field_two (at + 4 * i + 2) (file_of written ms) (omega arith)) ∙ file_session written ms i h a b few);
       next_offset = next_offset ms i h;
     }
 
@@ -88,8 +88,8 @@ held_by_byte file ms b e =
     let small : length (file_of written ms) ≤ limit written = rw (← is) few in
     rw is
     (record {
-      index_at_lem = file-index written ms small;
-      entries_are = file-entries written ms small are;
-      covered = rw (file-index written ms small, file-entries written ms small are) (sym (length_file written ms));
+      index_at_lem = file_index written ms small;
+      entries_are = file_entries written ms small are;
+      covered = rw (file_index written ms small, file_entries written ms small are) (sym (length_file written ms));
       places = place_law ms are (rw (← is) b) small;
     })

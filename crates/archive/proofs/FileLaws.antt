@@ -67,14 +67,14 @@ module _ (f : Form) (ms : List (List ℕ)) where
   file_form = trailer_field 6 2 ∙ trailer_form f (length (records_bytes ms)) (length ms)
 
   module _ (small : length (file_of f ms) ≤ limit f) where
-    pub file-index : index_at (file_of f ms) ≡ length (records_bytes ms)
-    file-index =
+    pub file_index : index_at (file_of f ms) ≡ length (records_bytes ms)
+    file_index =
         let e : trailer_at (file_of f ms) + 0 ≡ trailer_at (file_of f ms) = omega arith in
         rw e at (trailer_field 0 4)
         ∙ trailer_index f (length (records_bytes ms)) (length ms) (omega (arith, length_file f ms, limit_small f))
 
-    pub file-entries : AreMessages ms → entries_in (file_of f ms) ≡ length ms
-    file-entries are =
+    pub file_entries : AreMessages ms → entries_in (file_of f ms) ≡ length ms
+    file_entries are =
         let few = entries_fit f (length (records_bytes ms)) (length ms) (records_least ms are) (rw (← length_file f ms) small) in
         trailer_field 4 2 ∙ trailer_entries f (length (records_bytes ms)) (length ms) few
 
@@ -93,8 +93,8 @@ file_holds f ms are few =
       file_form f ms,
       form_of_lem f,
       le-ltb (limit f) (length (file_of f ms)) few,
-      file-index f ms few,
-      file-entries f ms few are,
+      file_index f ms few,
+      file_entries f ms few are,
       le-ltb (trailer_at (file_of f ms)) (at + entry_size f * length ms) (omega (arith, length_file f ms)),
       le-leb at (length (file_of f ms)) (omega (arith, length_file f ms)),
       records_in f ms,

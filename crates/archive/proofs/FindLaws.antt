@@ -27,7 +27,7 @@ use Rattle.archive.specs.Walking.{InForm, not_opened, opened, Opened}
 use Rattle.archive.proofs.FormLaws.{width_most, one_form}
 use Rattle.archive.proofs.VerdictLaws.{verdict_one}
 use Rattle.archive.proofs.RecordLaws.{length_file}
-use Rattle.archive.proofs.PlaceLaws.{record_there, file-length, file-offset, file-session}
+use Rattle.archive.proofs.PlaceLaws.{record_there, file_length, file_offset, file_session}
 use Rattle.archive.proofs.AcceptLaws.{held_is, refused_other}
 
 -- ---- what the answer to opening says
@@ -46,19 +46,19 @@ module _ (file : List ℕ) (o : Opening) (eo : o ≡ opening_by (archive_of file
       go (holds f ms) = refl
 
   module _ (f : Form) (form : InForm f (archive_of file)) where
-    opened-as : (a : Archive) → InForm f a → archive_of file ≡ a → ((v : Verdict) → a ≡ refused v → ⊥)
+    opened_as : (a : Archive) → InForm f a → archive_of file ≡ a → ((v : Verdict) → a ≡ refused v → ⊥)
         → Opened file f o.size o.entries
-    opened-as a (not_opened v) e h = absurd (h v refl)
-    opened-as a (opened ms) e h = record { messages = ms; are_held = e; size_is = rw (eo, e); count_is = rw (eo, e) }
+    opened_as a (not_opened v) e h = absurd (h v refl)
+    opened_as a (opened ms) e h = record { messages = ms; are_held = e; size_is = rw (eo, e); count_is = rw (eo, e) }
 
     -- some entries, or verdict 0: the file was opened
     opened_some : 0 < o.entries → Opened file f o.size o.entries
     opened_some h =
-        opened-as (archive_of file) form refl (λ v e. let z = ap (λ (x : Opening). x.entries) (eo ∙ ap opening_by e) in omega arith)
+        opened_as (archive_of file) form refl (λ v e. let z = ap (λ (x : Opening). x.entries) (eo ∙ ap opening_by e) in omega arith)
 
-    pub opened-zero : verdict_number o.verdict ≡ 0 → Opened file f o.size o.entries
-    opened-zero h =
-        opened-as (archive_of file) form refl
+    pub opened_zero : verdict_number o.verdict ≡ 0 → Opened file f o.size o.entries
+    opened_zero h =
+        opened_as (archive_of file) form refl
         (λ v e.
         let same : verdict_number o.verdict ≡ verdict_number v = ap (λ (x : Opening). verdict_number x.verdict) (eo ∙ ap opening_by e) in
         refused_other file v e (verdict_one v Accepted (sym same ∙ h)))
@@ -103,59 +103,59 @@ module _ (file : List ℕ) (f : Form) (size count : ℕ) (o : Opened file f size
       in_file : {A : Type 0} (g : List ℕ → A) (x : A) → g (file_of f ms) ≡ x → g file ≡ x
       in_file g x e = ap g whole.0 ∙ e
 
-      are-file : AreBytes (file_of f ms)
-      are-file = subst AreBytes whole.0 are
+      are_file : AreBytes (file_of f ms)
+      are_file = subst AreBytes whole.0 are
 
-      most-file : length (file_of f ms) ≤ limit f
-      most-file = subst (λ x. length x ≤ limit f) whole.0 whole.2
+      most_file : length (file_of f ms) ≤ limit f
+      most_file = subst (λ x. length x ≤ limit f) whole.0 whole.2
 
-      file-long : length file ≡ size + entry_size f * count + 8
-      file-long = omega (arith, ap length whole.0, length_file f ms, o.size_is, ap (entry_size f *◌) o.count_is)
+      file_long : length file ≡ size + entry_size f * count + 8
+      file_long = omega (arith, ap length whole.0, length_file f ms, o.size_is, ap (entry_size f *◌) o.count_is)
 
       -- the entry that i entries precede
       entry_in : size + entry_size f * i + entry_size f + 8 ≤ length file
       entry_in =
           let l : suc i ≤ count = omega arith in
-          omega (arith, file-long, mul-suc (entry_size f) i, mul-le-mul_left (entry_size f) l)
+          omega (arith, file_long, mul-suc (entry_size f) i, mul-le-mul_left (entry_size f) l)
 
-      offset-is : field_at (size + entry_size f * i) (offset_width f) file ≡ offset_at ms i
-      offset-is =
+      offset_is : field_at (size + entry_size f * i) (offset_width f) file ≡ offset_at ms i
+      offset_is =
           ap (λ k. field_at (k + entry_size f * i) (offset_width f) file) o.size_is
-          ∙ in_file (field_at _ _) _ (file-offset f ms i there whole.1 are-file most-file)
+          ∙ in_file (field_at _ _) _ (file_offset f ms i there whole.1 are_file most_file)
 
       session_is : field_at (size + entry_size f * i + offset_width f) 2 file ≡ session_of (message_at ms i)
       session_is =
           ap (λ k. field_at (k + entry_size f * i + offset_width f) 2 file) o.size_is
-          ∙ in_file (field_at _ _) _ (file-session f ms i there whole.1 are-file most-file)
+          ∙ in_file (field_at _ _) _ (file_session f ms i there whole.1 are_file most_file)
 
       -- its record
       length_is : field_at (offset_at ms i) 2 file ≡ length (message_at ms i)
-      length_is = in_file (field_at _ _) _ (file-length f ms i there whole.1)
+      length_is = in_file (field_at _ _) _ (file_length f ms i there whole.1)
 
-      length-in : offset_at ms i + 2 ≤ length file
-      length-in = omega (arith, ap length whole.0, record_there f ms i there)
+      length_in_lem : offset_at ms i + 2 ≤ length file
+      length_in_lem = omega (arith, ap length whole.0, record_there f ms i there)
 
     -- the n-th from 1, as the code goes
     module _ (n : ℕ) (first : 0 < n) (last : n ≤ count) (e w : ℕ) (ee : e ≡ entry_size f) (ew : w ≡ offset_width f) where
       under : n - 1 < count
       under = omega arith
 
-      pub nth-entry : size + e * (n - 1) + w ≤ length file
-      nth-entry = rw (ee, ew) (omega (arith, entry_in (n - 1) under))
+      pub nth_entry : size + e * (n - 1) + w ≤ length file
+      nth_entry = rw (ee, ew) (omega (arith, entry_in (n - 1) under))
 
       module _ (at : ℕ) (ea : at ≡ field_at (size + e * (n - 1)) w file) where
-        at-is : at ≡ offset_at ms (n - 1)
-        at-is = ea ∙ rw (ee, ew) (offset-is (n - 1) under)
+        at_is : at ≡ offset_at ms (n - 1)
+        at_is = ea ∙ rw (ee, ew) (offset_is (n - 1) under)
 
-        pub nth-there : at + 2 ≤ length file
-        nth-there = rw at-is (length-in (n - 1) under)
+        pub nth_there : at + 2 ≤ length file
+        nth_there = rw at_is (length_in_lem (n - 1) under)
 
-        pub nth-is : (len : ℕ) → len ≡ field_at at 2 file
+        pub nth_is : (len : ℕ) → len ≡ field_at at 2 file
             → record { verdict = Accepted; number = n; message = part (at + 2) len } ≡ reading_by n (archive_of file)
-        nth-is len el =
-            let l : len ≡ length (message_at ms (n - 1)) = el ∙ rw at-is (length_is (n - 1) under) in
+        nth_is len el =
+            let l : len ≡ length (message_at ms (n - 1)) = el ∙ rw at_is (length_is (n - 1) under) in
             let s : suc (n - 1) ≡ n = omega arith in
-            rw (at-is, l) (rw s at (shown_nth (n - 1) under))
+            rw (at_is, l) (rw s at (shown_nth (n - 1) under))
 
 -- ---- the search
 
@@ -188,12 +188,12 @@ module _ (session : ℕ) (ms : List (List ℕ)) (i : ℕ) where
     unfolding first_of
     next b e = rw (drop-cons ms i [] h, e)
 
-    first-hit : session_of (message_at ms i) ≡ session → numbered i (first_of session (drop i ms)) ≡ i + 1
-    first-hit e = ap (numbered i) (next true (eq-eqb _ _ e)) ∙ omega arith
+    first_hit : session_of (message_at ms i) ≡ session → numbered i (first_of session (drop i ms)) ≡ i + 1
+    first_hit e = ap (numbered i) (next true (eq-eqb _ _ e)) ∙ omega arith
 
-    first-miss : (session_of (message_at ms i) ≡ session → ⊥)
+    first_miss : (session_of (message_at ms i) ≡ session → ⊥)
         → numbered i (first_of session (drop i ms)) ≡ numbered (i + 1) (first_of session (drop (i + 1) ms))
-    first-miss e =
+    first_miss e =
         let s : i + 1 ≡ suc i = omega arith in
         ap (numbered i) (next false (ne_eqb _ _ e)) ∙ numbered_more i (first_of session (drop (suc i) ms)) ∙ rw s
 
@@ -227,23 +227,23 @@ module _ (file : List ℕ) (f : Form) (o : Opening) (eo : o ≡ opening_by (arch
       found : Opened file f o.size o.entries
       found = opened_some file o eo f form (omega arith)
 
-      pub seek-in : at + entry_size f ≤ length file
-      seek-in = omega (arith, s.place, entry_in file f o.size o.entries found are i more, width_most f)
+      pub seek_in : at + entry_size f ≤ length file
+      seek_in = omega (arith, s.place, entry_in file f o.size o.entries found are i more, width_most f)
 
       module _ (v : ℕ) (ev : v ≡ field_at at 2 file) where
-        v-is : v ≡ session_of (message_at (held_by (archive_of file)) i)
-        v-is = ev ∙ rw (s.place, found.are_held) (session_is file f o.size o.entries found are i more)
+        v_is : v ≡ session_of (message_at (held_by (archive_of file)) i)
+        v_is = ev ∙ rw (s.place, found.are_held) (session_is file f o.size o.entries found are i more)
 
         listed : i < length (held_by (archive_of file))
         listed = omega (arith, held_count file o eo)
 
         pub seek_hit : v ≡ session → i + 1 ≡ first_in session (archive_of file)
-        seek_hit e = sym (s.left ∙ first-hit session (held_by (archive_of file)) i listed (sym v-is ∙ e))
+        seek_hit e = sym (s.left ∙ first_hit session (held_by (archive_of file)) i listed (sym v_is ∙ e))
 
-        pub seek-on : (v ≡ session → ⊥) → (e : ℕ) → e ≡ entry_size f → Seeking file f o session (i + 1) (at + e)
-        seek-on other e ee =
+        pub seek_on : (v ≡ session → ⊥) → (e : ℕ) → e ≡ entry_size f → Seeking file f o session (i + 1) (at + e)
+        seek_on other e ee =
             record {
               within = omega arith;
               place = omega (arith, s.place);
-              left = s.left ∙ first-miss session (held_by (archive_of file)) i listed (λ q. other (v-is ∙ q));
+              left = s.left ∙ first_miss session (held_by (archive_of file)) i listed (λ q. other (v_is ∙ q));
             }

@@ -18,7 +18,7 @@ use Rattle.archive.specs.Records.{message_in, record_fits, messages_to}
 use Rattle.archive.specs.Walking.{cut_size, is_whole, listed, session_in}
 use Rattle.archive.proofs.ListLaws.{take_sets}
 use Rattle.archive.proofs.RecordLaws.{length_entry, cut_nothing}
-use Rattle.archive.proofs.WalkLaws.{size_of_lem, cut-sized, size-there, session-there}
+use Rattle.archive.proofs.WalkLaws.{size_of_lem, cut_sized, size_there, session_there}
 use Rattle.archive.proofs.LeftLaws.{messages_from, next_fits, next_whole, next_listed, whole_within, from_start}
 
 -- what is left to store
@@ -80,10 +80,10 @@ module _ {old : List ℕ} {f : Form} {size : ℕ} {file : List ℕ} {at to : ℕ
   fits_now = rw i.kept fits_here
 
   size_here : k ≡ cut_size here
-  size_here = ke ∙ rw i.kept at (sym (size-there file at size under within_now fits_now))
+  size_here = ke ∙ rw i.kept at (sym (size_there file at size under within_now fits_now))
 
   pub turn_sized : (18 ≤ k) × (at + k ≤ size)
-  turn_sized = rw size_here (cut-sized old at size under i.size_within fits_here)
+  turn_sized = rw size_here (cut_sized old at size under i.size_within fits_here)
 
   listed_here : listed (messages_from old at size) ≡ message_in here ∷ ms
   listed_here = next_listed old at size under i.size_within i.whole
@@ -96,35 +96,35 @@ module _ {old : List ℕ} {f : Form} {size : ℕ} {file : List ℕ} {at to : ℕ
   turn_room = omega (arith, turn_left, i.same_length)
 
   session_here : session_in file at ≡ session_of (message_in here)
-  session_here = rw i.kept at (sym (session-there file at size under within_now fits_now))
+  session_here = rw i.kept at (sym (session_there file at size under within_now fits_now))
 
   module _ {w session e : ℕ} {l1 l2 : List ℕ} (we : w ≡ offset_width f) (se : session ≡ session_in file at) (ee : e ≡ entry_size f)
       (e1 : l1 ≡ sets file to (number_bytes big w at)) (e2 : l2 ≡ sets l1 (to + w) (number_bytes big 2 session)) where
-    entry-stores : l2 ≡ sets file to (entry_bytes f at (message_in here))
+    entry_stores : l2 ≡ sets file to (entry_bytes f at (message_in here))
     unfolding entry_bytes
-    entry-stores =
+    entry_stores =
         e2
         ∙ rw (e1, we, se, session_here)
         (two_stores file (number_bytes big (offset_width f) at) (number_bytes big 2 (session_of (message_in here))) to (offset_width f)
         (length_number_bytes (offset_width f) at))
 
-    rest-here : sets l2 (to + entry_size f) (index_bytes f (at + cut_size here) ms) ≡ sets file to (left old f size at)
+    rest_here : sets l2 (to + entry_size f) (index_bytes f (at + cut_size here) ms) ≡ sets file to (left old f size at)
     unfolding index_bytes
-    rest-here =
-        rw (entry-stores, listed_here, ← size_of_lem old at size under i.size_within fits_here)
+    rest_here =
+        rw (entry_stores, listed_here, ← size_of_lem old at size under i.size_within fits_here)
         (two_stores file (entry_bytes f at (message_in here)) (index_bytes f (at + cut_size here) ms) to (entry_size f)
         (length_entry f at (message_in here)))
 
-    pub index-turn : Indexing old f size l2 (at + k) (to + e)
-    index-turn =
+    pub index_turn : Indexing old f size l2 (at + k) (to + e)
+    index_turn =
         rw (ee, size_here)
         record {
-          at_within = (cut-sized old at size under i.size_within fits_here).1;
+          at_within = (cut_sized old at size under i.size_within fits_here).1;
           size_within = i.size_within;
           whole = next_whole old at size under i.size_within i.whole;
           behind = omega (arith, i.behind);
           room = turn_left;
-          same_length = ap length entry-stores ∙ length-sets file to (entry_bytes f at (message_in here)) ∙ i.same_length;
-          kept = ap (take size) entry-stores ∙ take_sets size file to (entry_bytes f at (message_in here)) i.behind ∙ i.kept;
-          stores_rest = rest-here ∙ i.stores_rest;
+          same_length = ap length entry_stores ∙ length-sets file to (entry_bytes f at (message_in here)) ∙ i.same_length;
+          kept = ap (take size) entry_stores ∙ take_sets size file to (entry_bytes f at (message_in here)) i.behind ∙ i.kept;
+          stores_rest = rest_here ∙ i.stores_rest;
         }

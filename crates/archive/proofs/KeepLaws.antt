@@ -31,7 +31,7 @@ use Rattle.archive.specs.Promises.{
 }
 use Rattle.archive.proofs.VerdictLaws.{refusal}
 use Rattle.archive.proofs.RecordLaws.{length_record, length_closing, length_file, records_append}
-use Rattle.archive.proofs.LeftLaws.{told_size, records_cut, cut-records}
+use Rattle.archive.proofs.LeftLaws.{told_size, records_cut, cut_records}
 use Rattle.archive.proofs.AddLaws.{not_full}
 
 -- ---- room
@@ -76,34 +76,34 @@ module _ (file : List ℕ) (told : ℕ) (m : List ℕ) where
   abbrev more : List (List ℕ) → List (List ℕ)
   more ms = ms ++ (m ∷ [])
 
-  abbrev addFull : List (List ℕ) → Bool
-  addFull ms = is_full written (length file) (told + record_size m) (suc (length ms))
+  abbrev add_full : List (List ℕ) → Bool
+  add_full ms = is_full written (length file) (told + record_size m) (suc (length ms))
 
-  add_fits : (ms : List (List ℕ)) → RecordsTo file told ms → addFull ms ≡ false → Fits file (more ms)
+  add_fits : (ms : List (List ℕ)) → RecordsTo file told ms → add_full ms ≡ false → Fits file (more ms)
   add_fits ms r = full_fits file (more ms) (told + record_size m) (suc (length ms)) (more_size file told ms r m)
 
-  add_room : (ms : List (List ℕ)) → RecordsTo file told ms → Fits file (more ms) → addFull ms ≡ false
+  add_room : (ms : List (List ℕ)) → RecordsTo file told ms → Fits file (more ms) → add_full ms ≡ false
   add_room ms r = fits_room file (more ms) (told + record_size m) (suc (length ms)) (more_size file told ms r m)
 
   added_given : AreBytes file → (v : Verdict) → (kept_by told (adding file told m)).verdict ≡ v → AddedWhen file told m v
   unfolding adding
   added_given b v = go (messages_to file told) refl
     where
-      room : (ms : List (List ℕ)) → RecordsTo file told ms → message_fits m ≡ true → (c : Bool) → addFull ms ≡ c
+      room : (ms : List (List ℕ)) → RecordsTo file told ms → message_fits m ≡ true → (c : Bool) → add_full ms ≡ c
           → (kept_by told (pick c (refused Full) (stores (record_bytes m)))).verdict ≡ v → AddedWhen file told m v
       room ms r h true ec e = subst (AddedWhen file told m) e (ms, r, h, λ f. true≢false (sym ec ∙ add_room ms r f))
       room ms r h false ec e = subst (AddedWhen file told m) e (ms, r, h, add_fits ms r ec)
 
       message : (ms : List (List ℕ)) → RecordsTo file told ms → (c : Bool) → message_fits m ≡ c
-          → (kept_by told (pick c (pick (addFull ms) (refused Full) (stores (record_bytes m))) (refused NoMessage))).verdict ≡ v
+          → (kept_by told (pick c (pick (add_full ms) (refused Full) (stores (record_bytes m))) (refused NoMessage))).verdict ≡ v
           → AddedWhen file told m v
-      message ms r true ec e = room ms r ec (addFull ms) refl e
+      message ms r true ec e = room ms r ec (add_full ms) refl e
       message ms r false ec e = subst (AddedWhen file told m) e (ms, r, ec)
 
       go : (o : Option (List (List ℕ))) → messages_to file told ≡ o → (kept_by told (adding_to file told m o)).verdict ≡ v
           → AddedWhen file told m v
       go none eo e = subst (AddedWhen file told m) e (λ ms r. none-ne-some ms (sym eo ∙ records_cut file told ms r))
-      go (some ms) eo e = message ms (cut-records file told ms eo b) (message_fits m) refl e
+      go (some ms) eo e = message ms (cut_records file told ms eo b) (message_fits m) refl e
 
   -- an added record
   pub add_stores : (ms : List (List ℕ)) → RecordsTo file told ms → message_fits m ≡ true → Fits file (more ms)
@@ -118,11 +118,11 @@ module _ (file : List ℕ) (told : ℕ) (m : List ℕ) where
     where
       go : (o : Option (List (List ℕ))) → messages_to file told ≡ o → (kept_by told (adding_to file told m o)).verdict ≡ Records
       go none e = refl
-      go (some ms) e = absurd (n ms (cut-records file told ms e b))
+      go (some ms) e = absurd (n ms (cut_records file told ms e b))
   added_gives b NoMessage (ms, r, h) = rw (records_cut file told ms r, h)
-  added_gives b Full (ms, r, h, n) = rw (records_cut file told ms r, h) (go (addFull ms) refl)
+  added_gives b Full (ms, r, h, n) = rw (records_cut file told ms r, h) (go (add_full ms) refl)
     where
-      go : (c : Bool) → addFull ms ≡ c → (kept_by told (pick c (refused Full) (stores (record_bytes m)))).verdict ≡ Full
+      go : (c : Bool) → add_full ms ≡ c → (kept_by told (pick c (refused Full) (stores (record_bytes m)))).verdict ≡ Full
       go true e = refl
       go false e = absurd (n (add_fits ms r e))
   added_gives b Trailer w = absurd w
@@ -134,20 +134,20 @@ add_verdicts file told m v b = (added_given file told m b v, added_gives file to
 -- ---- the verdicts of closing
 
 module _ (file : List ℕ) (told : ℕ) where
-  abbrev closeFull : List (List ℕ) → Bool
-  closeFull ms = is_full written (length file) told (length ms)
+  abbrev close_full : List (List ℕ) → Bool
+  close_full ms = is_full written (length file) told (length ms)
 
-  close_fits : (ms : List (List ℕ)) → RecordsTo file told ms → closeFull ms ≡ false → Fits file ms
+  close_fits : (ms : List (List ℕ)) → RecordsTo file told ms → close_full ms ≡ false → Fits file ms
   close_fits ms r = full_fits file ms told (length ms) (same_size file told ms r)
 
-  close_room : (ms : List (List ℕ)) → RecordsTo file told ms → Fits file ms → closeFull ms ≡ false
+  close_room : (ms : List (List ℕ)) → RecordsTo file told ms → Fits file ms → close_full ms ≡ false
   close_room ms r = fits_room file ms told (length ms) (same_size file told ms r)
 
   closed_given : AreBytes file → (v : Verdict) → (kept_by told (closing file told)).verdict ≡ v → ClosedWhen file told v
   unfolding closing
   closed_given b v = go (messages_to file told) refl
     where
-      room : (ms : List (List ℕ)) → RecordsTo file told ms → (c : Bool) → closeFull ms ≡ c
+      room : (ms : List (List ℕ)) → RecordsTo file told ms → (c : Bool) → close_full ms ≡ c
           → (kept_by told (pick c (refused Full) (stores (closing_bytes written ms)))).verdict ≡ v → ClosedWhen file told v
       room ms r true ec e = subst (ClosedWhen file told) e (ms, r, λ f. true≢false (sym ec ∙ close_room ms r f))
       room ms r false ec e = subst (ClosedWhen file told) e (ms, r, close_fits ms r ec)
@@ -155,7 +155,7 @@ module _ (file : List ℕ) (told : ℕ) where
       go : (o : Option (List (List ℕ))) → messages_to file told ≡ o → (kept_by told (closing_to file told o)).verdict ≡ v
           → ClosedWhen file told v
       go none eo e = subst (ClosedWhen file told) e (λ ms r. none-ne-some ms (sym eo ∙ records_cut file told ms r))
-      go (some ms) eo e = room ms (cut-records file told ms eo b) (closeFull ms) refl e
+      go (some ms) eo e = room ms (cut_records file told ms eo b) (close_full ms) refl e
 
   -- a closed file
   pub close_stores : (ms : List (List ℕ)) → RecordsTo file told ms → Fits file ms → closing file told ≡ stores (closing_bytes written ms)
@@ -169,10 +169,10 @@ module _ (file : List ℕ) (told : ℕ) where
     where
       go : (o : Option (List (List ℕ))) → messages_to file told ≡ o → (kept_by told (closing_to file told o)).verdict ≡ Records
       go none e = refl
-      go (some ms) e = absurd (n ms (cut-records file told ms e b))
-  closed_gives b Full (ms, r, n) = rw (records_cut file told ms r) (go (closeFull ms) refl)
+      go (some ms) e = absurd (n ms (cut_records file told ms e b))
+  closed_gives b Full (ms, r, n) = rw (records_cut file told ms r) (go (close_full ms) refl)
     where
-      go : (c : Bool) → closeFull ms ≡ c → (kept_by told (pick c (refused Full) (stores (closing_bytes written ms)))).verdict ≡ Full
+      go : (c : Bool) → close_full ms ≡ c → (kept_by told (pick c (refused Full) (stores (closing_bytes written ms)))).verdict ≡ Full
       go true e = refl
       go false e = absurd (n (close_fits ms r e))
   closed_gives b NoMessage w = absurd w
@@ -194,7 +194,7 @@ module _ (file : List ℕ) (told : ℕ) where
   unfolding adding
   add_stored m = go (messages_to file told)
     where
-      room : (ms : List (List ℕ)) (c : Bool) → addFull file told m ms ≡ c
+      room : (ms : List (List ℕ)) (c : Bool) → add_full file told m ms ≡ c
           → Stored (length file) told (record_bytes m) (pick c (refused Full) (stores (record_bytes m)))
       room ms true e = not_stored Full (refusal Full (omega arith))
       room ms false e =
@@ -202,8 +202,8 @@ module _ (file : List ℕ) (told : ℕ) where
 
       message : (ms : List (List ℕ)) (c : Bool)
           → Stored (length file) told (record_bytes m)
-          (pick c (pick (addFull file told m ms) (refused Full) (stores (record_bytes m))) (refused NoMessage))
-      message ms true = room ms (addFull file told m ms) refl
+          (pick c (pick (add_full file told m ms) (refused Full) (stores (record_bytes m))) (refused NoMessage))
+      message ms true = room ms (add_full file told m ms) refl
       message ms false = not_stored NoMessage (refusal NoMessage (omega arith))
 
       go : (o : Option (List (List ℕ))) → Stored (length file) told (record_bytes m) (adding_to file told m o)
@@ -213,9 +213,9 @@ module _ (file : List ℕ) (told : ℕ) where
   close_stored : (ms : List (List ℕ)) → messages_to file told ≡ some ms
       → Stored (length file) told (closing_bytes written ms) (closing file told)
   unfolding closing
-  close_stored ms e = rw e (go (closeFull file told ms) refl)
+  close_stored ms e = rw e (go (close_full file told ms) refl)
     where
-      go : (c : Bool) → closeFull file told ms ≡ c
+      go : (c : Bool) → close_full file told ms ≡ c
           → Stored (length file) told (closing_bytes written ms) (pick c (refused Full) (stores (closing_bytes written ms)))
       go true ec = not_stored Full (refusal Full (omega arith))
       go false ec = are_stored (omega (arith, not_full written (length file) told (length ms) ec, length_closing written ms))
@@ -226,23 +226,23 @@ module _ (file : List ℕ) (told : ℕ) where
 
   module _ (xs : List ℕ) where
     -- what is left of the file, part by part
-    stored-parts : told + length xs ≤ length file → sets file told xs ≡ take told file ++ (xs ++ drop (told + length xs) file)
-    stored-parts h = sets-eq xs file told h ∙ append_assoc (take told file) xs (drop (told + length xs) file)
+    stored_parts : told + length xs ≤ length file → sets file told xs ≡ take told file ++ (xs ++ drop (told + length xs) file)
+    stored_parts h = sets-eq xs file told h ∙ append_assoc (take told file) xs (drop (told + length xs) file)
 
     writes : (o : Outcome) → Stored (length file) told xs o → (kept_by told o).verdict ≡ Accepted
         → ((kept_by told o).size ≡ told + length xs) × (file_by file told o ≡ take told file ++ (xs ++ drop (told + length xs) file))
     writes o (not_stored v n) e = absurd (n e)
-    writes o (are_stored h) e = (refl, stored-parts h)
+    writes o (are_stored h) e = (refl, stored_parts h)
 
-    change-law : (o : Outcome) → Stored (length file) told xs o → ChangeLaw file told o
-    change-law o (not_stored v n) = record { refuses = λ _. (refl, refl); same_length = refl; front = refl; back = refl }
-    change-law o (are_stored h) =
+    change_law : (o : Outcome) → Stored (length file) told xs o → ChangeLaw file told o
+    change_law o (not_stored v n) = record { refuses = λ _. (refl, refl); same_length = refl; front = refl; back = refl }
+    change_law o (are_stored h) =
         let l : length (take told file) ≡ told = length-take-le told file (omega arith) in
         let lx : length (take told file ++ xs) ≡ told + length xs = length-append (take told file) xs ∙ rw l in
         record {
           refuses = λ n. absurd (n refl);
           same_length = length-sets file told xs;
-          front = rw (stored-parts h) (take_at (take told file) (xs ++ drop (told + length xs) file) told l);
+          front = rw (stored_parts h) (take_at (take told file) (xs ++ drop (told + length xs) file) told l);
           back = rw (sets-eq xs file told h) (drop_at (take told file ++ xs) (drop (told + length xs) file) (told + length xs) lx);
         }
 
@@ -250,14 +250,14 @@ pub add_writes : AddWrites
 add_writes file told m e = rw (length_record m) at (writes file told (record_bytes m) (adding file told m) (add_stored file told m) e)
 
 pub add_changes : AddChanges
-add_changes file told m = change-law file told (record_bytes m) (adding file told m) (add_stored file told m)
+add_changes file told m = change_law file told (record_bytes m) (adding file told m) (add_stored file told m)
 
 pub close_changes : CloseChanges
 close_changes file told = go (messages_to file told) refl
   where
     go : (o : Option (List (List ℕ))) → messages_to file told ≡ o → ChangeLaw file told (closing file told)
-    go none e = change-law file told [] (closing file told) (close_refused file told e)
-    go (some ms) e = change-law file told (closing_bytes written ms) (closing file told) (close_stored file told ms e)
+    go none e = change_law file told [] (closing file told) (close_refused file told e)
+    go (some ms) e = change_law file told (closing_bytes written ms) (closing file told) (close_stored file told ms e)
 
 pub close_writes : CloseWrites
 unfolding file_of

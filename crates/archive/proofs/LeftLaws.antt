@@ -19,7 +19,7 @@ use Rattle.archive.specs.Records.{message_in, record_fits, before, cut_all, mess
 use Rattle.archive.specs.Walking.{cut_size, walked_from, is_whole, listed}
 use Rattle.archive.specs.Promises.{RecordsTo}
 use Rattle.archive.proofs.RecordLaws.{turns_enough, cut_back, cut_messages, cut_few, cut_is}
-use Rattle.archive.proofs.WalkLaws.{cut_none, cut-sized, cut_more}
+use Rattle.archive.proofs.WalkLaws.{cut_none, cut_sized, cut_more}
 
 -- ---- whole or not
 
@@ -88,7 +88,7 @@ module _ (file : List ℕ) (at size : ℕ) (under : at < size) (inside : size �
 
   next_is : messages_from file at size ≡ before (message_in b) (messages_from file next size)
   next_is =
-      let k = cut-sized file at size under inside next_fits in
+      let k = cut_sized file at size under inside next_fits in
       let l = length-slice next size file inside in
       ap (λ n. cut_all n b) long
       ∙ cut_more file at size under inside next_fits (size - at - 1)
@@ -126,19 +126,19 @@ module _ (file : List ℕ) (told : ℕ) (ms : List (List ℕ)) where
   records_cut r = from_start file told r.inside ∙ rw r.records (cut_back ms r.messages)
 
   module _ (e : messages_to file told ≡ some ms) where
-    cut-told : messages_in (take told file) ≡ some ms
-    cut-told = sym (from_start file told (whole_within file told (ap is_whole e))) ∙ e
+    cut_told : messages_in (take told file) ≡ some ms
+    cut_told = sym (from_start file told (whole_within file told (ap is_whole e))) ∙ e
 
-    pub told-messages : AreMessages ms
-    told-messages = cut_messages (take told file) ms cut-told
+    pub told_messages : AreMessages ms
+    told_messages = cut_messages (take told file) ms cut_told
 
-    pub told-few : length ms ≤ told
-    told-few = omega (arith, cut_few (take told file) ms cut-told, length-take-le told file (whole_within file told (ap is_whole e)))
+    pub told_few : length ms ≤ told
+    told_few = omega (arith, cut_few (take told file) ms cut_told, length-take-le told file (whole_within file told (ap is_whole e)))
 
-    pub cut-records : AreBytes file → RecordsTo file told ms
-    cut-records b =
+    pub cut_records : AreBytes file → RecordsTo file told ms
+    cut_records b =
         record {
           inside = whole_within file told (ap is_whole e);
-          records = cut_is (take told file) ms cut-told (bytes_take told file b);
-          messages = told-messages;
+          records = cut_is (take told file) ms cut_told (bytes_take told file b);
+          messages = told_messages;
         }

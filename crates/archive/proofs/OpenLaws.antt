@@ -50,9 +50,9 @@ use Rattle.archive.specs.Walking.{walked_from, listed, Trailed}
 use Rattle.archive.proofs.ListLaws.{slice_split}
 use Rattle.archive.proofs.FormLaws.{form_of_lem, form_back, form_none}
 use Rattle.archive.proofs.RecordLaws.{length_index, length_file}
-use Rattle.archive.proofs.LeftLaws.{walked_none, walked_some, walked_count, told_size, cut-records}
+use Rattle.archive.proofs.LeftLaws.{walked_none, walked_some, walked_count, told_size, cut_records}
 use Rattle.archive.proofs.SameLaws.{is_same, same_by, same_append}
-use Rattle.archive.proofs.FileLaws.{file-entries}
+use Rattle.archive.proofs.FileLaws.{file_entries}
 use Rattle.archive.proofs.AgreeLaws.{Told}
 
 -- ---- 52
@@ -73,9 +73,9 @@ module _ (file : List ℕ) (are : AreBytes file) where
     inside : size ≤ length file
     inside = omega (arith, t.index_in, t.whole)
 
-    trailer-is : drop end file ≡ trailer_bytes f size n
+    trailer_is : drop end file ≡ trailer_bytes f size n
     unfolding trailer_bytes
-    trailer-is =
+    trailer_is =
         let w = t.whole in
         let a : trailer_at file ≡ end = omega arith in
         let four = field_bytes_lem end 4 (omega arith) in
@@ -99,41 +99,41 @@ module _ (file : List ℕ) (are : AreBytes file) where
         )
 
     module _ (ms : List (List ℕ)) (is : messages_to file size ≡ some ms) where
-      told-records : RecordsTo file size ms
-      told-records = cut-records file size ms is are
+      told_records : RecordsTo file size ms
+      told_records = cut_records file size ms is are
 
-      records-long : length (records_bytes ms) ≡ size
-      records-long = told_size file size ms told-records
+      records_long : length (records_bytes ms) ≡ size
+      records_long = told_size file size ms told_records
 
-      count-other : (length ms ≡ n → ⊥) → same file (file_of f ms) ≡ false
-      count-other other =
+      count_other : (length ms ≡ n → ⊥) → same file (file_of f ms) ≡ false
+      count_other other =
           same_by false file (file_of f ms) (λ q. absurd (true≢false (sym q)))
-          (λ q. absurd (other (sym (t.entries_are ∙ ap entries_in q ∙ file-entries f ms (rw q at t.most) told-records.messages))))
+          (λ q. absurd (other (sym (t.entries_are ∙ ap entries_in q ∙ file_entries f ms (rw q at t.most) told_records.messages))))
 
       entries_long : length ms ≡ n → entry_size f * length ms ≡ entry_size f * n
       entries_long en = ap (entry_size f *◌) en
 
-      end-other : length ms ≡ n → (size + entry_size f * n ≡ end → ⊥) → same file (file_of f ms) ≡ false
-      end-other en other =
+      end_other : length ms ≡ n → (size + entry_size f * n ≡ end → ⊥) → same file (file_of f ms) ≡ false
+      end_other en other =
           same_by false file (file_of f ms) (λ q. absurd (true≢false (sym q)))
-          (λ q. absurd (other (let l = ap length q ∙ length_file f ms in omega (arith, records-long, t.whole, entries_long en))))
+          (λ q. absurd (other (let l = ap length q ∙ length_file f ms in omega (arith, records_long, t.whole, entries_long en))))
 
-      file-cut : file ≡ records_bytes ms ++ (slice size end file ++ trailer_bytes f size n)
-      file-cut =
+      file_cut : file ≡ records_bytes ms ++ (slice size end file ++ trailer_bytes f size n)
+      file_cut =
           let p = slice_split size end (length file) file (omega (arith, t.index_in)) (omega (arith, t.whole)) in
           let s = rw (take-length file) at p in
-          sym (take-append-drop size file) ∙ rw (told-records.records, s, trailer-is)
+          sym (take-append-drop size file) ∙ rw (told_records.records, s, trailer_is)
 
-      index-decides : length ms ≡ n → size + entry_size f * n ≡ end
+      index_decides : length ms ≡ n → size + entry_size f * n ≡ end
           → same file (file_of f ms) ≡ same (slice size end file) (index_bytes f 0 ms)
       unfolding file_of closing_bytes
-      index-decides en ends =
+      index_decides en ends =
           let l : length (slice size end file) ≡ length (index_bytes f 0 ms) =
           length-slice size end file (omega (arith, t.whole)) ∙ omega (arith, length_index f 0 ms, entries_long en) in
           let last = trailer_bytes f size n in
-          ap (λ x. same x (file_of f ms)) file-cut
+          ap (λ x. same x (file_of f ms)) file_cut
           ∙ rw (
-            records-long,
+            records_long,
             en,
             same_append (records_bytes ms) (records_bytes ms) (slice size end file ++ last) (index_bytes f 0 ms ++ last) refl,
             is_same (records_bytes ms),
@@ -147,8 +147,8 @@ module _ (file : List ℕ) (are : AreBytes file) where
       abbrev r : Option (List (List ℕ))
       r = messages_to file size
 
-      pub check-torn : w.whole ≡ false → opening_by (refused Records) ≡ opening_by (checked file f r)
-      check-torn e = rw (walked_none r w ew e)
+      pub check_torn : w.whole ≡ false → opening_by (refused Records) ≡ opening_by (checked file f r)
+      check_torn e = rw (walked_none r w ew e)
 
       module _ (whole : w.whole ≡ true) where
         is : r ≡ some (listed r)
@@ -161,31 +161,31 @@ module _ (file : List ℕ) (are : AreBytes file) where
         counted : w.count ≡ length (listed r)
         counted = walked_count r w ew
 
-        pub check-count : (w.count ≡ n → ⊥) → opening_by (refused Records) ≡ opening_by (checked file f r)
-        check-count other = sym (found false (count-other (listed r) is (λ e. other (counted ∙ e))))
+        pub check_count : (w.count ≡ n → ⊥) → opening_by (refused Records) ≡ opening_by (checked file f r)
+        check_count other = sym (found false (count_other (listed r) is (λ e. other (counted ∙ e))))
 
         module _ (count : w.count ≡ n) (e : ℕ) (ee : e ≡ entry_size f) where
-          pub check-end : (size + e * n ≡ end → ⊥) → opening_by (refused Records) ≡ opening_by (checked file f r)
-          check-end other = sym (found false (end-other (listed r) is (sym counted ∙ count) (λ q. other (rw ee q))))
+          pub check_end : (size + e * n ≡ end → ⊥) → opening_by (refused Records) ≡ opening_by (checked file f r)
+          check_end other = sym (found false (end_other (listed r) is (sym counted ∙ count) (λ q. other (rw ee q))))
 
           module _ (ends : size + e * n ≡ end) where
             ends_as : size + entry_size f * n ≡ end
             ends_as = rw ee at ends
 
-            pub check-told : Told file f size end
-            check-told =
+            pub check_told : Told file f size end
+            check_told =
                 let m : entry_size f * length (listed r) ≡ entry_size f * n = rw (← counted, count) in
                 (rw is, omega (arith, t.most, inside), omega (arith, ends_as), omega (arith, t.whole))
 
             module _ (b : Bool) (eb : b ≡ same (slice size end file) (index_bytes f 0 (listed r))) where
               decided : same file (file_of f (listed r)) ≡ b
-              decided = index-decides (listed r) is (sym counted ∙ count) ends_as ∙ sym eb
+              decided = index_decides (listed r) is (sym counted ∙ count) ends_as ∙ sym eb
 
-              pub check-index : b ≡ false → opening_by (refused Records) ≡ opening_by (checked file f r)
-              check-index e = sym (found false (decided ∙ e))
+              pub check_index : b ≡ false → opening_by (refused Records) ≡ opening_by (checked file f r)
+              check_index e = sym (found false (decided ∙ e))
 
-              pub check-all : b ≡ true → record { verdict = Accepted; size = size; entries = n } ≡ opening_by (checked file f r)
-              check-all e = sym (found true (decided ∙ e) ∙ rw (records-long (listed r) is, ← counted, count))
+              pub check_all : b ≡ true → record { verdict = Accepted; size = size; entries = n } ≡ opening_by (checked file f r)
+              check_all e = sym (found true (decided ∙ e) ∙ rw (records_long (listed r) is, ← counted, count))
 
 -- ---- 51, as the code goes
 
@@ -195,12 +195,12 @@ module _ (file : List ℕ) where
   open_short h = rw (lt-ltb (length file) trailer_len h)
 
   module _ (long : trailer_len ≤ length file) (v : ℕ) (ev : v ≡ form_in file) where
-    as-form : (o : Option Form) → form_of (form_in file) ≡ o → archive_of file ≡ open_as file o
+    as_form : (o : Option Form) → form_of (form_in file) ≡ o → archive_of file ≡ open_as file o
     unfolding archive_of
-    as-form o e = rw (le-ltb (length file) trailer_len long, e)
+    as_form o e = rw (le-ltb (length file) trailer_len long, e)
 
-    pub open-other : ((f : Form) → v ≡ form_number f → ⊥) → opening_by (refused Trailer) ≡ opening_by (archive_of file)
-    open-other other = ap opening_by (sym (as-form none (form_none (form_in file) (λ f q. other f (ev ∙ q)))))
+    pub open_other : ((f : Form) → v ≡ form_number f → ⊥) → opening_by (refused Trailer) ≡ opening_by (archive_of file)
+    open_other other = ap opening_by (sym (as_form none (form_none (form_in file) (λ f q. other f (ev ∙ q)))))
 
     module _ (f : Form) (form : v ≡ form_number f) (m : ℕ) (em : m ≡ limit f) where
       form_is : form_of (form_in file) ≡ some f
@@ -208,26 +208,26 @@ module _ (file : List ℕ) where
 
       outgrown : (b : Bool) → outgrows file f ≡ b
           → opening_by (archive_of file) ≡ opening_by (pick b (refused Trailer) (checked file f (messages_to file (index_at file))))
-      outgrown b e = ap opening_by (as-form (some f) form_is) ∙ rw e
+      outgrown b e = ap opening_by (as_form (some f) form_is) ∙ rw e
 
-      pub open-large : m < length file → opening_by (refused Trailer) ≡ opening_by (archive_of file)
+      pub open_large : m < length file → opening_by (refused Trailer) ≡ opening_by (archive_of file)
       unfolding outgrows
-      open-large h = sym (outgrown true (rw (← em, lt-ltb m (length file) h)))
+      open_large h = sym (outgrown true (rw (← em, lt-ltb m (length file) h)))
 
       module _ (small : length file ≤ m) (at n e : ℕ) (ea : at ≡ index_at file) (en : n ≡ entries_in file) (ee : e ≡ entry_size f) where
-        under-limit : ltb (limit f) (length file) ≡ false
-        under-limit = rw (← em) (le-ltb m (length file) small)
+        under_limit : ltb (limit f) (length file) ≡ false
+        under_limit = rw (← em) (le-ltb m (length file) small)
 
-        pub open-past : trailer_at file < at + e * n → opening_by (refused Trailer) ≡ opening_by (archive_of file)
+        pub open_past : trailer_at file < at + e * n → opening_by (refused Trailer) ≡ opening_by (archive_of file)
         unfolding outgrows
-        open-past h =
+        open_past h =
             let p : ltb (trailer_at file) (index_at file + entry_size f * entries_in file) ≡ true
             = rw (← ea, ← en, ← ee) (lt-ltb (trailer_at file) (at + e * n) h) in
-            sym (outgrown true (rw (under-limit, p)))
+            sym (outgrown true (rw (under_limit, p)))
 
         module _ (ends : at + e * n ≤ trailer_at file) where
-          pub open-trailed : Trailed file f at n (trailer_at file)
-          open-trailed =
+          pub open_trailed : Trailed file f at n (trailer_at file)
+          open_trailed =
               record {
                 whole = omega arith;
                 size_is = ea;
@@ -237,9 +237,9 @@ module _ (file : List ℕ) where
                 most = rw em at small;
               }
 
-          pub open-checked : (r : Opening) → r ≡ opening_by (checked file f (messages_to file at)) → r ≡ opening_by (archive_of file)
+          pub open_checked : (r : Opening) → r ≡ opening_by (checked file f (messages_to file at)) → r ≡ opening_by (archive_of file)
           unfolding outgrows
-          open-checked r er =
+          open_checked r er =
               let p : ltb (trailer_at file) (index_at file + entry_size f * entries_in file) ≡ false
               = rw (← ea, ← en, ← ee) (le-ltb (trailer_at file) (at + e * n) ends) in
-              er ∙ rw ea (sym (outgrown false (rw (under-limit, p))))
+              er ∙ rw ea (sym (outgrown false (rw (under_limit, p))))

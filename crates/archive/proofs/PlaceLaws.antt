@@ -154,20 +154,20 @@ module _ (f : Form) (ms : List (List ℕ)) (i : ℕ) (h : i < length ms) where
 
   module _ (a : AreMessages ms) where
     -- the length that its record begins with
-    pub file-length : field_at (offset_at ms i) 2 (file_of f ms) ≡ length (message_at ms i)
-    file-length =
+    pub file_length : field_at (offset_at ms i) 2 (file_of f ms) ≡ length (message_at ms i)
+    file_length =
         let m = message_at ms i in
         let e : length (before ms i h) + 0 ≡ offset_at ms i = omega arith in
         rw file_around (rw e at (field_behind (before ms i h) (record_bytes m ++ rest) 0 2))
         ∙ length_back m rest (message_fits_lem ms i a h)
 
     module _ (are : AreBytes (file_of f ms)) (small : length (file_of f ms) ≤ limit f) where
-      small-offset : offset_at ms i < 256 ^ offset_width f
-      small-offset = omega (arith, record_there, limit_fits f)
+      small_offset : offset_at ms i < 256 ^ offset_width f
+      small_offset = omega (arith, record_there, limit_fits f)
 
-      small-session : session_of (message_at ms i) < 256 ^ 2
+      small_session : session_of (message_at ms i) < 256 ^ 2
       unfolding field_at file_of
-      small-session =
+      small_session =
           read_below (message_at ms i) session_at 2 (omega (arith, message_least (message_at ms i) (message_fits_lem ms i a h)))
           (message_bytes_lem ms i h (bytes_left (records_bytes ms) (closing_bytes f ms) are))
 
@@ -181,13 +181,13 @@ module _ (f : Form) (ms : List (List ℕ)) (i : ℕ) (h : i < length ms) where
           let last = trailer_bytes f (length (records_bytes ms)) (length ms) in
           field_behind (records_bytes ms) (closing_bytes f ms) (entry_size f * i + k) w ∙ rw z at (index_field f 0 ms last i k w h l)
 
-      pub file-offset : field_at (length (records_bytes ms) + entry_size f * i) (offset_width f) (file_of f ms) ≡ offset_at ms i
-      file-offset =
+      pub file_offset : field_at (length (records_bytes ms) + entry_size f * i) (offset_width f) (file_of f ms) ≡ offset_at ms i
+      file_offset =
           let e : length (records_bytes ms) + (entry_size f * i + 0) ≡ length (records_bytes ms) + entry_size f * i = omega arith in
-          rw e at (index_at_lem 0 (offset_width f) (omega arith)) ∙ entry_offset f (offset_at ms i) (message_at ms i) small-offset
+          rw e at (index_at_lem 0 (offset_width f) (omega arith)) ∙ entry_offset f (offset_at ms i) (message_at ms i) small_offset
 
-      pub file-session : field_at (length (records_bytes ms) + entry_size f * i + offset_width f) 2 (file_of f ms) ≡ session_of (message_at ms i)
-      file-session =
+      pub file_session : field_at (length (records_bytes ms) + entry_size f * i + offset_width f) 2 (file_of f ms) ≡ session_of (message_at ms i)
+      file_session =
           let w = offset_width f in
           let e : length (records_bytes ms) + (entry_size f * i + w) ≡ length (records_bytes ms) + entry_size f * i + w = omega arith in
-          rw e at (index_at_lem w 2 (omega arith)) ∙ entry_session f (offset_at ms i) (message_at ms i) small-session
+          rw e at (index_at_lem w 2 (omega arith)) ∙ entry_session f (offset_at ms i) (message_at ms i) small_session

@@ -208,18 +208,18 @@ module _ (bytes : List ℕ) (h : record_fits bytes ≡ true) where
   message_length = length-take-le (length_in bytes) (drop 2 bytes) (omega (arith, record_whole, length-drop 2 bytes))
 
   module _ (bs : AreBytes bytes) where
-    length-bytes : number_bytes big 2 (length_in bytes) ≡ take 2 bytes
+    length_bytes : number_bytes big 2 (length_in bytes) ≡ take 2 bytes
     unfolding field_at
-    length-bytes =
+    length_bytes =
         let two : length (take 2 bytes) ≡ 2 = length-take-le 2 bytes (omega (arith, record_whole)) in
         rw two at (bytes_back (take 2 bytes) (bytes_take 2 bytes bs))
 
     record_is : record_bytes (message_in bytes) ≡ take (2 + length_in bytes) bytes
     unfolding record_bytes
-    record_is = rw (message_length, length-bytes) (sym (take-add 2 (length_in bytes) bytes))
+    record_is = rw (message_length, length_bytes) (sym (take-add 2 (length_in bytes) bytes))
 
-    record-first : bytes ≡ record_bytes (message_in bytes) ++ drop (2 + length_in bytes) bytes
-    record-first = sym (ap (λ xs. xs ++ drop (2 + length_in bytes) bytes) record_is ∙ take-append-drop (2 + length_in bytes) bytes)
+    record_first : bytes ≡ record_bytes (message_in bytes) ++ drop (2 + length_in bytes) bytes
+    record_first = sym (ap (λ xs. xs ++ drop (2 + length_in bytes) bytes) record_is ∙ take-append-drop (2 + length_in bytes) bytes)
 
 -- bytes that were cut into messages, record by record
 data Cut : List ℕ → List (List ℕ) → Type 0 where
@@ -251,7 +251,7 @@ bytes_cut : {bytes : List ℕ} {ms : List (List ℕ)} → AreBytes bytes → Cut
 unfolding records_bytes
 bytes_cut b cut_none = refl
 bytes_cut b (cut_more bytes ms h c) =
-    record-first bytes h b
+    record_first bytes h b
     ∙ ap (λ l. record_bytes (message_in bytes) ++ l) (bytes_cut (bytes_drop (2 + length_in bytes) bytes b) c)
 
 few_cut : {bytes : List ℕ} {ms : List (List ℕ)} → Cut bytes ms → length ms ≤ length bytes

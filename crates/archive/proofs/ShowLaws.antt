@@ -74,30 +74,30 @@ module _ (session : ℕ) where
 
   -- the number of the first message with the Session ID, 0 where none has it
   data First (ms : List (List ℕ)) : ℕ → Type 0 where
-    no-first : ((i : ℕ) → i < length ms → Has ms i → ⊥) → First ms 0
-    is-first : (i : ℕ) → i < length ms → Has ms i → ((j : ℕ) → j < i → Has ms j → ⊥) → First ms (suc i)
+    no_first : ((i : ℕ) → i < length ms → Has ms i → ⊥) → First ms 0
+    is_first : (i : ℕ) → i < length ms → Has ms i → ((j : ℕ) → j < i → Has ms j → ⊥) → First ms (suc i)
 
   first_is : (ms : List (List ℕ)) → First ms (first_of session ms)
   unfolding first_of
-  first_is [] = no-first (λ i h e. omega arith)
+  first_is [] = no_first (λ i h e. omega arith)
   first_is (m ∷ ms) = go (eqb (session_of m) session) refl (first_of session ms) (first_is ms)
     where
       go : (c : Bool) → eqb (session_of m) session ≡ c → (k : ℕ) → First ms k → First (m ∷ ms) (pick c 1 (counted k))
-      go true e k w = is-first 0 (omega arith) (eqb-true _ _ e) (λ j h. absurd (omega arith))
-      go false e k (no-first n) = no-first none
+      go true e k w = is_first 0 (omega arith) (eqb-true _ _ e) (λ j h. absurd (omega arith))
+      go false e k (no_first n) = no_first none
         where
           none : (i : ℕ) → i < suc (length ms) → Has (m ∷ ms) i → ⊥
           none zero h q = eqb-false _ _ e q
           none (suc j) h q = n j (omega arith) q
-      go false e k (is-first i h has none) = is-first (suc i) (omega arith) has earlier
+      go false e k (is_first i h has none) = is_first (suc i) (omega arith) has earlier
         where
           earlier : (j : ℕ) → j < suc i → Has (m ∷ ms) j → ⊥
           earlier zero l q = eqb-false _ _ e q
           earlier (suc j) l q = none j (omega arith) q
 
   module _ (ms : List (List ℕ)) where
-    first-with : (i : ℕ) → i < length ms → Has ms i → ((j : ℕ) → j < i → Has ms j → ⊥) → FirstWith session ms (suc i)
-    first-with i h has none =
+    first_with : (i : ℕ) → i < length ms → Has ms i → ((j : ℕ) → j < i → Has ms j → ⊥) → FirstWith session ms (suc i)
+    first_with i h has none =
         let back : suc i - 1 ≡ i = omega arith in
         record { least = omega arith; most = omega arith; has = rw back has; no_earlier = λ j l. none j (omega arith) }
 
@@ -110,16 +110,16 @@ module _ (session : ℕ) where
         go false true ec ed = absurd (a.no_earlier (k - 1) (omega (arith, b.least, ltb-true k n ed)) b.has)
         go false false ec ed = omega (arith, ltb-false n k ec, ltb-false k n ed)
 
-    find-law : (file : List ℕ) (f : Form) → file ≡ file_of f ms → (k : ℕ) → First ms k → FindLaw file ms session (nth ms k)
-    find-law file f is k (no-first none) =
+    find_law : (file : List ℕ) (f : Form) → file ≡ file_of f ms → (k : ℕ) → First ms k → FindLaw file ms session (nth ms k)
+    find_law file f is k (no_first none) =
         record {
           given = λ n. (λ (e, _). absurd (not_both e), λ w. absurd (none (n - 1) (omega (arith, w.least, w.most)) w.has));
           none = (λ _. none, λ _. refl);
           shows = λ e. absurd (not_both e);
           refuses = λ _. refl;
         }
-    find-law file f is k (is-first i h has none) =
-        let first = first-with i h has none in
+    find_law file f is k (is_first i h has none) =
+        let first = first_with i h has none in
         rw (lt-ltb i (length ms) h)
         (record {
           given = λ n. (λ (_, e). subst (FirstWith session ms) e first, λ w. (refl, first_one (suc i) n first w));
@@ -129,7 +129,7 @@ module _ (session : ℕ) where
         })
 
 pub finds_first : FindsFirst
-finds_first file f ms session e = rw e (find-law session ms file f (held_is file f ms e).0 (first_of session ms) (first_is session ms))
+finds_first file f ms session e = rw e (find_law session ms file f (held_is file f ms e).0 (first_of session ms) (first_is session ms))
 
 -- ---- refusals
 

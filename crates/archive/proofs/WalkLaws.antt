@@ -36,14 +36,14 @@ module _ (file : List ℕ) (at end : ℕ) (inside : end ≤ length file) where
   size_short h = no_room (slice at end file) (omega (arith, length-slice at end file inside))
 
   module _ (h : at + 2 ≤ end) where
-    pub size-past : end - (at + 2) < field_at at 2 file → 0 ≡ cut_size (slice at end file)
-    size-past k = no_room (slice at end file) (omega (arith, length-slice at end file inside, length_there h))
+    pub size_past : end - (at + 2) < field_at at 2 file → 0 ≡ cut_size (slice at end file)
+    size_past k = no_room (slice at end file) (omega (arith, length-slice at end file inside, length_there h))
 
-    pub size-by : (n : ℕ) → n ≡ field_at at 2 file → at + 2 + n ≤ end
+    pub size_by : (n : ℕ) → n ≡ field_at at 2 file → at + 2 + n ≤ end
         → (r s : Bool) → r ≡ message_fits (take (at + 2 + n - (at + 2)) (drop (at + 2) file)) → r ≡ s
         → pick s (2 + n) 0 ≡ cut_size (slice at end file)
     unfolding cut_size record_fits
-    size-by n en k r s er es =
+    size_by n en k r s er es =
         let l : length_in (slice at end file) ≡ n = length_there h ∙ sym en in
         let e : at + 2 + n - (at + 2) ≡ n = omega arith in
         let fine = le-leb (2 + n) (length (slice at end file)) (omega (arith, length-slice at end file inside)) in
@@ -94,13 +94,13 @@ module _ (file : List ℕ) (at size : ℕ) (under : at < size) (inside : size �
     pub size_of_lem : cut_size b ≡ record_size (message_in b)
     size_of_lem = omega (arith, size_is, message_length b fits)
 
-    pub cut-sized : (18 ≤ cut_size b) × (at + cut_size b ≤ size)
-    cut-sized =
+    pub cut_sized : (18 ≤ cut_size b) × (at + cut_size b ≤ size)
+    cut_sized =
         (omega (arith, size_of_lem, message_least (message_in b) (record_message b fits)), omega (arith, size_is, record_whole b fits, long))
 
     -- by its length alone
-    pub size-there : cut_size b ≡ 2 + field_at at 2 file
-    size-there = size_is ∙ ap (2 +◌) (length_there file at size inside (omega (arith, cut-sized)))
+    pub size_there : cut_size b ≡ 2 + field_at at 2 file
+    size_there = size_is ∙ ap (2 +◌) (length_there file at size inside (omega (arith, cut_sized)))
 
     pub cut_more : (turns : ℕ) → cut_all (suc turns) b ≡ before (message_in b) (cut_all turns (slice (at + cut_size b) size file))
     cut_more turns =
@@ -109,11 +109,11 @@ module _ (file : List ℕ) (at size : ℕ) (under : at < size) (inside : size �
     message_is : message_in b ≡ slice (at + 2) (at + cut_size b) file
     message_is =
         let e : at + 2 + length_in b ≡ at + cut_size b = omega (arith, size_is) in
-        let t = take-take (at + 2 + length_in b) size file (omega (arith, cut-sized, size_is)) in
+        let t = take-take (at + 2 + length_in b) size file (omega (arith, cut_sized, size_is)) in
         ap (take (length_in b)) (drop-drop 2 at (take size file)) ∙ take_drop (at + 2) (length_in b) (take size file) ∙ (rw (t, e))
 
-    pub session-there : session_of (message_in b) ≡ session_in file at
-    session-there = rw message_is (field_in file (at + 2) (at + cut_size b) session_at 2 (omega (arith, cut-sized)))
+    pub session_there : session_of (message_in b) ≡ session_in file at
+    session_there = rw message_is (field_in file (at + 2) (at + cut_size b) session_at 2 (omega (arith, cut_sized)))
 
   -- a turn of the walk that counts
   pub walk_turn : (n : ℕ) → n ≤ at → (cut_size b ≡ 0 → ⊥)

@@ -212,10 +212,10 @@ module _ (file : List ℕ) (told : ℕ) (old ms : List (List ℕ)) where
   archive = take (kept_by added.size closed).size after
 
   pub record AddedLaw : Type 0 where
-    pub all-accepted : added.verdicts ≡ replicate (length ms) Accepted
-    pub records-size : added.size ≡ length (records_bytes all)
+    pub all_accepted : added.verdicts ≡ replicate (length ms) Accepted
+    pub records_size : added.size ≡ length (records_bytes all)
     pub closes : kept_by added.size closed ≡ record { verdict = Accepted; size = length (file_of written all) }
-    pub file-after : after ≡ file_of written all ++ drop (length (file_of written all)) file
+    pub file_after : after ≡ file_of written all ++ drop (length (file_of written all)) file
     pub opens : archive_of archive ≡ holds written all
     pub reads : (i : ℕ) → i < length all → part_of archive (reading_by (suc i) (archive_of archive)).message ≡ message_at all i
 

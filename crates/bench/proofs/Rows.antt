@@ -82,8 +82,8 @@ module _ {M : Type 1} {𝓤 : Ura M} (𝓛 : Logic 𝓤) (rows : List Row) (b : 
         rewrite ! 0 (λ (F : Fml). ‵ F) (sym (parts-cells T.the_row full_share (take k rows) b 0)) refl $ move ! (1 ∷ []) $
         rewrite ! 0 (λ (F : Fml). ‵ F) (sym (parts-cells T.the_row full_share (drop-list k rows) b (at 0 (mem T.the_row).size (length (take k rows))))) refl $ move ! (1 ∷ 0 ∷ []) $ done !
 
-    pub row-join : ent 𝓤 (sep 𝓤 (sem 𝓛 before) (sem 𝓛 behind)) (sem 𝓛 (row T.the_row full_share rows b 0))
-    row-join =
+    pub row_join : ent 𝓤 (sep 𝓤 (sem 𝓛 before) (sem 𝓛 behind)) (sem 𝓛 (row T.the_row full_share rows b 0))
+    row_join =
         qed 𝓛 (‵ before ∷ ‵ behind ∷ []) ∵ rewrite ! 0 (λ (F : Fml). ‵ F) (parts-cells T.the_row full_share (take k rows) b 0) refl $ move ! (1 ∷ []) $
         rewrite ! 0 (λ (F : Fml). ‵ F) (parts-cells T.the_row full_share (drop-list k rows) b (at 0 (mem T.the_row).size (length (take k rows)))) refl $ move ! (1 ∷ 0 ∷ []) $
         use2 𝓛 (‵ (cells (Sh T.the_row full_share) (take k rows ++ drop-list k rows) b 0)) (join_app 𝓛 (Sh T.the_row full_share) (take k rows) (drop-list k rows) b 0) $

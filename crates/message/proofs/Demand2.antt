@@ -27,10 +27,10 @@ use Rattle.message.specs.Reading.{payload_of, payload_shown, head_at, headed, le
 use Rattle.message.specs.Writing.{message_bytes, sending_of}
 use Rattle.message.specs.Promises.{HeaderLaw}
 use Rattle.message.specs.Demand2.{expected_of, body_of, MessageBack, MessageDemand2, MessageDemand2Holds, MessageDemand2Answered}
-use Rattle.message.proofs.HeaderLaws.{verdict-none}
+use Rattle.message.proofs.HeaderLaws.{verdict_none}
 use Rattle.message.proofs.FieldLaws.{header_law}
 use Rattle.message.proofs.SendLaws.{header_size, message_size}
-use Rattle.message.proofs.Given.{Given, sending-given, given-sending, answer_sending}
+use Rattle.message.proofs.Given.{Given, sending_given, given_sending, answer_sending}
 
 -- ---- a message, with x behind it
 
@@ -90,7 +90,7 @@ module _ (h : Header) (f : Fitting h) (p : List ℕ) (few : length p ≤ payload
 
     verdict_is : header_verdict d (expected_of h) ≡ Accepted
     verdict_is =
-        verdict-none d (expected_of h) (ap version_of d_is ∙ fields.version_back (p ++ x)) (ap service_of d_is ∙ fields.service_back (p ++ x))
+        verdict_none d (expected_of h) (ap version_of d_is ∙ fields.version_back (p ++ x)) (ap service_of d_is ∙ fields.service_back (p ++ x))
         (ap interface_of d_is ∙ fields.interface_back (p ++ x)) (ap method_of d_is ∙ fields.method_back (p ++ x))
         (ap type_of d_is ∙ fields.type_back (p ++ x))
 
@@ -109,20 +109,20 @@ module _ (h : Header) (f : Fitting h) (p : List ℕ) (few : length p ≤ payload
             payload_is,
           )
 
-    pub end-size : end_of d ≡ length m
-    end-size = end_is ∙ sym size_is
+    pub end_size : end_of d ≡ length m
+    end_size = end_is ∙ sym size_is
 
-    head-payload : payload_shown Accepted (end_of d) ≡ part header_len (length m - header_len)
+    head_payload : payload_shown Accepted (end_of d) ≡ part header_len (length m - header_len)
     unfolding payload_shown
-    head-payload = rw end-size
+    head_payload = rw end_size
 
-    pub head-rest : part (end_of d) (length d - end_of d) ≡ part (length m) (length x)
-    head-rest =
+    pub head_rest : part (end_of d) (length d - end_of d) ≡ part (length m) (length x)
+    head_rest =
         let z : length d - length m ≡ length x = omega (arith, length_is, size_is) in
-        rw (end-size, z)
+        rw (end_size, z)
 
-    shown-payload : part_of d (part header_len (length m - header_len)) ≡ body_of m
-    shown-payload =
+    shown_payload : part_of d (part header_len (length m - header_len)) ≡ body_of m
+    shown_payload =
         let z : header_len + (length m - header_len) - header_len ≡ length p = omega (arith, size_is) in
         sym (cut_part d (part header_len (length m - header_len)) (omega (arith, size_is, length_is))) ∙ rw (z, cut, body_is)
 
@@ -135,30 +135,30 @@ module _ (h : Header) (f : Fitting h) (p : List ℕ) (few : length p ≤ payload
 
     module _ (rows : List Row) (t : Table) (buf : List ℕ) (b : Demand2 rows t buf p) (one : is_one h.kind.0 ≡ true) (fits : table_fits t ≡ true)
         (room : ℕ) (enough : t.count ≤ room) where
-      verdict-back : (reading_of p t room).verdict ≡ Accepted
-      verdict-back = (b.read_back room enough).verdict_is
+      verdict_back : (reading_of p t room).verdict ≡ Accepted
+      verdict_back = (b.read_back room enough).verdict_is
 
-      headed-back : MessageBack h rows t buf m x (headed d (reading_of p t room))
+      headed_back : MessageBack h rows t buf m x (headed d (reading_of p t room))
       unfolding head_at d
-      headed-back = record {
+      headed_back = record {
         client_back = ap client_of d_is ∙ fields.client_back (p ++ x);
         session_back = ap session_of d_is ∙ fields.session_back (p ++ x);
         code_back = ap code_of d_is ∙ fields.code_back (p ++ x);
-        payload_at = rw verdict-back head-payload;
-        payload_is = rw (verdict-back, head-payload) shown-payload;
-        rest_at = head-rest;
-        rest_is = rw head-rest shown_rest;
+        payload_at = rw verdict_back head_payload;
+        payload_is = rw (verdict_back, head_payload) shown_payload;
+        rest_at = head_rest;
+        rest_is = rw head_rest shown_rest;
         read_back = rw body_is (b.read_back room enough);
       }
 
       message_back : MessageBack h rows t buf m x (message_of d (expected_of h) t room)
-      message_back = rw (read_is t one fits room enough) headed-back
+      message_back = rw (read_is t one fits room enough) headed_back
 
-      message-again : (space : ℕ) → length m ≤ space
+      message_again : (space : ℕ) → length m ≤ space
           → sending_of h (message_of d (expected_of h) t room).reading.rows room t (body_of m) space ≡ done m
-      message-again space s =
+      message_again space s =
           rw (read_is t one fits room enough, body_is)
-          (given-sending h (reading_of p t room).rows room t p space m
+          (given_sending h (reading_of p t room).rows room t p space m
           (record {
             payload = p;
             kind_one = one;
@@ -190,7 +190,7 @@ module _ (h : Header) (rows : List Row) (room : ℕ) (t : Table) (buf : List ℕ
     message_is = rw (body_is h f p few);
     is_tree = rw (body_is h f p few) back.is_tree;
     reads_back = λ x room2 enough. message_back h f p few x rows t buf back g.kind_one fits room2 enough;
-    again = λ x room2 space2 enough s. message-again h f p few x rows t buf back g.kind_one fits room2 enough space2 s;
+    again = λ x room2 space2 enough s. message_again h f p few x rows t buf back g.kind_one fits room2 enough space2 s;
   }
 
   given_holds : MessageDemand2 h rows t buf sent
@@ -198,7 +198,7 @@ module _ (h : Header) (rows : List Row) (room : ℕ) (t : Table) (buf : List ℕ
   given_holds = rw g.message_is holds
 
 pub message_demand_2 : MessageDemand2Holds
-message_demand_2 h rows room t buf space sent f a e = given_holds h rows room t buf space sent f a (sending-given h rows room t buf space sent e)
+message_demand_2 h rows room t buf space sent f a e = given_holds h rows room t buf space sent f a (sending_given h rows room t buf space sent e)
 
 -- by the writer's answer
 pub message_demand_2_answered : MessageDemand2Answered

@@ -23,7 +23,7 @@ use Rattle.message.specs.MessageType.{is_one}
 use Rattle.message.specs.Reading.{payload_shown, head_at, headed, message_of}
 use Rattle.message.specs.Demand2.{expected_of}
 use Rattle.message.specs.Demand3.{MessageSent, message_of_members, MessageArrives, MessageDemand3Holds, AbsentArrives}
-use Rattle.message.proofs.Given.{Given, sending-given}
+use Rattle.message.proofs.Given.{Given, sending_given}
 use Rattle.message.proofs.Demand2 as framed
 
 -- after Accepted and after Missing the payload part is given
@@ -34,7 +34,7 @@ shown_for v end = ⊎_elim (λ e. rw e) (λ e. rw e)
 module _ (h : Header) (t u : Table) (rows : List Row) (buf : List ℕ) (m : Members) (x : List ℕ) (room : ℕ) (s : MessageSent h t u rows buf m)
     (enough : u.count ≤ room) where
   given : Given h rows s.room t buf s.space s.message
-  given = sending-given h rows s.room t buf s.space s.message s.makes
+  given = sending_given h rows s.room t buf s.space s.message s.makes
 
   -- the payload was sent
   sent : Sent t u rows buf m
@@ -81,7 +81,7 @@ module _ (h : Header) (t u : Table) (rows : List Row) (buf : List ℕ) (m : Memb
     session_back = ap session_of (framed.d_is h s.fitting p few x) ∙ (framed.fields h s.fitting p few).session_back (p ++ x);
     code_back = ap code_of (framed.d_is h s.fitting p few x) ∙ (framed.fields h s.fitting p few).code_back (p ++ x);
     payload_at = shown_for (reading_of p u room).verdict (end_of d) arrived.verdict_is ∙ ap (part header_len) end_there;
-    rest_is = ap (part_of d) (framed.head-rest h s.fitting p few x) ∙ framed.shown_rest h s.fitting p few x;
+    rest_is = ap (part_of d) (framed.head_rest h s.fitting p few x) ∙ framed.shown_rest h s.fitting p few x;
     arrives = arrived;
   }
 

@@ -35,9 +35,9 @@ pub record Given (h : Header) (rows : List Row) (room : ℕ) (t : Table) (buf : 
 
 module _ (h : Header) (rows : List Row) (room : ℕ) (t : Table) (buf : List ℕ) (space : ℕ) where
   module _ (m : List ℕ) where
-    pub sending-given : sending_of h rows room t buf space ≡ done m → Given h rows room t buf space m
+    pub sending_given : sending_of h rows room t buf space ≡ done m → Given h rows room t buf space m
     unfolding sending_of framed
-    sending-given = go (is_one h.kind.0) refl (outcome_of rows room t buf payload_most) refl
+    sending_given = go (is_one h.kind.0) refl (outcome_of rows room t buf payload_most) refl
       where
         last : is_one h.kind.0 ≡ true → (p : List ℕ) → outcome_of rows room t buf payload_most ≡ done p
             → (b : Bool) → ltb space (header_len + length p) ≡ b → pick b (refused Room) (done (message_bytes h p)) ≡ done m
@@ -57,9 +57,9 @@ module _ (h : Header) (rows : List Row) (room : ℕ) (t : Table) (buf : List ℕ
         go true k (refused v) eo e = never e
         go true k (done p) eo e = last k p eo (ltb space (header_len + length p)) refl e
 
-    pub given-sending : Given h rows room t buf space m → sending_of h rows room t buf space ≡ done m
+    pub given_sending : Given h rows room t buf space m → sending_of h rows room t buf space ≡ done m
     unfolding sending_of framed
-    given-sending g =
+    given_sending g =
         rw (g.kind_one, g.outcome, le-ltb space (header_len + length g.payload) g.fits) (ap done (sym g.message_is))
 
   -- a refusal's verdict isn't 0
@@ -89,6 +89,6 @@ module _ (h : Header) (rows : List Row) (room : ℕ) (t : Table) (buf old : List
           → o ≡ done (take (answer_is o).len (output_is old o))
       go (refused v) e q = absurd (sending_truly h rows room t buf (length old) (e ∙ ap refused q))
       go (done m) e q =
-          let g = sending-given h rows room t buf (length old) m e in
+          let g = sending_given h rows room t buf (length old) m e in
           let s : length m ≤ length old = omega (arith, ap length g.message_is, message_size h g.payload, g.fits) in
           ap done (sym (ap (take (length m)) (part_front old m s) ∙ take_at m (drop (length m) old) (length m) refl))

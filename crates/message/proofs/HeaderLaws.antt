@@ -71,14 +71,14 @@ module _ (d : List ℕ) (e : Expected) where
   verdict_version n = rw (ne_eqb (version_of d) protocol_version n)
 
   module _ (version : version_of d ≡ protocol_version) where
-    pub verdict-service : (service_of d ≡ e.service.0 → ⊥) → header_verdict d e ≡ Service
+    pub verdict_service : (service_of d ≡ e.service.0 → ⊥) → header_verdict d e ≡ Service
     unfolding header_verdict
-    verdict-service n = rw (eq-eqb (version_of d) protocol_version version, ne_eqb (service_of d) e.service.0 n)
+    verdict_service n = rw (eq-eqb (version_of d) protocol_version version, ne_eqb (service_of d) e.service.0 n)
 
     module _ (service : service_of d ≡ e.service.0) where
-      pub verdict-interface : (interface_of d ≡ e.interface → ⊥) → header_verdict d e ≡ Interface
+      pub verdict_interface : (interface_of d ≡ e.interface → ⊥) → header_verdict d e ≡ Interface
       unfolding header_verdict
-      verdict-interface n =
+      verdict_interface n =
           rw (
             eq-eqb (version_of d) protocol_version version,
             eq-eqb (service_of d) e.service.0 service,
@@ -86,9 +86,9 @@ module _ (d : List ℕ) (e : Expected) where
           )
 
       module _ (interface : interface_of d ≡ e.interface) where
-        pub verdict-method : (method_of d ≡ e.method.0 → ⊥) → header_verdict d e ≡ Method
+        pub verdict_method : (method_of d ≡ e.method.0 → ⊥) → header_verdict d e ≡ Method
         unfolding header_verdict
-        verdict-method n =
+        verdict_method n =
             rw (
               eq-eqb (version_of d) protocol_version version,
               eq-eqb (service_of d) e.service.0 service,
@@ -97,9 +97,9 @@ module _ (d : List ℕ) (e : Expected) where
             )
 
         module _ (method : method_of d ≡ e.method.0) where
-          pub verdict-type : (type_of d ≡ e.kind.0 → ⊥) → header_verdict d e ≡ MessageType
+          pub verdict_type : (type_of d ≡ e.kind.0 → ⊥) → header_verdict d e ≡ MessageType
           unfolding header_verdict
-          verdict-type n =
+          verdict_type n =
               rw (
                 eq-eqb (version_of d) protocol_version version,
                 eq-eqb (service_of d) e.service.0 service,
@@ -108,9 +108,9 @@ module _ (d : List ℕ) (e : Expected) where
                 ne_eqb (type_of d) e.kind.0 n,
               )
 
-          pub verdict-none : type_of d ≡ e.kind.0 → header_verdict d e ≡ Accepted
+          pub verdict_none : type_of d ≡ e.kind.0 → header_verdict d e ≡ Accepted
           unfolding header_verdict
-          verdict-none kind =
+          verdict_none kind =
               rw (
                 eq-eqb (version_of d) protocol_version version,
                 eq-eqb (service_of d) e.service.0 service,
@@ -132,32 +132,32 @@ module _ (d : List ℕ) (e : Expected) (h : 16 ≤ length d) where
   by_version n = sym (verdict_version d e (no_byte 12 _ (omega arith) n))
 
   module _ (version : get_or d 12 0 ≡ protocol_version) (s : ℕ) (se : s ≡ service_of d) where
-    is-version : version_of d ≡ protocol_version
-    is-version = is_byte 12 _ (omega arith) version
+    is_version : version_of d ≡ protocol_version
+    is_version = is_byte 12 _ (omega arith) version
 
-    pub by-service : (s ≡ e.service.0 → ⊥) → Service ≡ header_verdict d e
-    by-service n = sym (verdict-service d e is-version (λ q. n (se ∙ q)))
+    pub by_service : (s ≡ e.service.0 → ⊥) → Service ≡ header_verdict d e
+    by_service n = sym (verdict_service d e is_version (λ q. n (se ∙ q)))
 
     module _ (service : s ≡ e.service.0) where
-      is-service : service_of d ≡ e.service.0
-      is-service = sym se ∙ service
+      is_service : service_of d ≡ e.service.0
+      is_service = sym se ∙ service
 
-      pub by-interface : (get_or d 13 0 ≡ e.interface → ⊥) → Interface ≡ header_verdict d e
-      by-interface n = sym (verdict-interface d e is-version is-service (no_byte 13 _ (omega arith) n))
+      pub by_interface : (get_or d 13 0 ≡ e.interface → ⊥) → Interface ≡ header_verdict d e
+      by_interface n = sym (verdict_interface d e is_version is_service (no_byte 13 _ (omega arith) n))
 
       module _ (interface : get_or d 13 0 ≡ e.interface) (m : ℕ) (me : m ≡ method_of d) where
-        is-interface : interface_of d ≡ e.interface
-        is-interface = is_byte 13 _ (omega arith) interface
+        is_interface : interface_of d ≡ e.interface
+        is_interface = is_byte 13 _ (omega arith) interface
 
-        pub by-method : (m ≡ e.method.0 → ⊥) → Method ≡ header_verdict d e
-        by-method n = sym (verdict-method d e is-version is-service is-interface (λ q. n (me ∙ q)))
+        pub by_method : (m ≡ e.method.0 → ⊥) → Method ≡ header_verdict d e
+        by_method n = sym (verdict_method d e is_version is_service is_interface (λ q. n (me ∙ q)))
 
         module _ (method : m ≡ e.method.0) where
-          pub by-type : (get_or d 14 0 ≡ e.kind.0 → ⊥) → MessageType ≡ header_verdict d e
-          by-type n = sym (verdict-type d e is-version is-service is-interface (sym me ∙ method) (no_byte 14 _ (omega arith) n))
+          pub by_type : (get_or d 14 0 ≡ e.kind.0 → ⊥) → MessageType ≡ header_verdict d e
+          by_type n = sym (verdict_type d e is_version is_service is_interface (sym me ∙ method) (no_byte 14 _ (omega arith) n))
 
-          pub as-expected : get_or d 14 0 ≡ e.kind.0 → Accepted ≡ header_verdict d e
-          as-expected k = sym (verdict-none d e is-version is-service is-interface (sym me ∙ method) (is_byte 14 _ (omega arith) k))
+          pub as_expected : get_or d 14 0 ≡ e.kind.0 → Accepted ≡ header_verdict d e
+          as_expected k = sym (verdict_none d e is_version is_service is_interface (sym me ∙ method) (is_byte 14 _ (omega arith) k))
 
 -- ---- the payload's part
 

@@ -75,11 +75,11 @@ use Rattle.message.proofs.HeaderLaws.{
   length_fails_by,
   length_by_fails,
   verdict_version,
-  verdict-service,
-  verdict-interface,
-  verdict-method,
-  verdict-type,
-  verdict-none,
+  verdict_service,
+  verdict_interface,
+  verdict_method,
+  verdict_type,
+  verdict_none,
 }
 
 -- ---- the answer by its cases
@@ -98,14 +98,14 @@ module _ (d : List ℕ) (e : Expected) (t : Table) (room : ℕ) where
   answer_room k f h = rw (k, f, lt-ltb room t.count h)
 
   module _ (a : Asked e t room) where
-    answer-short : length d < header_len → message_of d e t room ≡ unheaded (cleared t.count Short 0)
+    answer_short : length d < header_len → message_of d e t room ≡ unheaded (cleared t.count Short 0)
     unfolding message_of
-    answer-short h = rw (a.kind_one, a.table_fits_lem, le-ltb room t.count a.room_fits, lt-ltb (length d) header_len h)
+    answer_short h = rw (a.kind_one, a.table_fits_lem, le-ltb room t.count a.room_fits, lt-ltb (length d) header_len h)
 
-    answer-length : header_len ≤ length d → length_fails (length_of d) (length d) ≡ true
+    answer_length : header_len ≤ length d → length_fails (length_of d) (length d) ≡ true
         → message_of d e t room ≡ unheaded (cleared t.count Length 0)
     unfolding message_of
-    answer-length h l = rw (a.kind_one, a.table_fits_lem, le-ltb room t.count a.room_fits, le-ltb (length d) header_len h, l)
+    answer_length h l = rw (a.kind_one, a.table_fits_lem, le-ltb room t.count a.room_fits, le-ltb (length d) header_len h, l)
 
   -- a whole message: 1 and 2, then the header's
   answer_whole : Whole d
@@ -120,17 +120,17 @@ module _ (d : List ℕ) (e : Expected) (t : Table) (room : ℕ) where
       )
 
   module _ (a : Asked e t room) (w : Whole d) where
-    answer-headed : message_of d e t room ≡ headed_of d e t room
-    answer-headed = answer_whole w ∙ rw (a.kind_one, a.table_fits_lem, le-ltb room t.count a.room_fits)
+    answer_headed : message_of d e t room ≡ headed_of d e t room
+    answer_headed = answer_whole w ∙ rw (a.kind_one, a.table_fits_lem, le-ltb room t.count a.room_fits)
 
-    answer-refused : (v : Verdict) → header_verdict d e ≡ v → (verdict_number v ≡ 0 → ⊥) → message_of d e t room ≡ headed d (cleared t.count v 0)
+    answer_refused : (v : Verdict) → header_verdict d e ≡ v → (verdict_number v ≡ 0 → ⊥) → message_of d e t room ≡ headed d (cleared t.count v 0)
     unfolding headed_of
-    answer-refused v q n = answer-headed ∙ rw (q, ne_eqb (verdict_number v) 0 n)
+    answer_refused v q n = answer_headed ∙ rw (q, ne_eqb (verdict_number v) 0 n)
 
-    pub answer-read : Matches d e → message_of d e t room ≡ headed d (reading_of (payload_of d) t room)
+    pub answer_read : Matches d e → message_of d e t room ≡ headed d (reading_of (payload_of d) t room)
     unfolding headed_of
-    answer-read m =
-        answer-headed ∙ rw (verdict-none d e m.version_is m.service_is m.interface_is m.method_is m.type_is)
+    answer_read m =
+        answer_headed ∙ rw (verdict_none d e m.version_is m.service_is m.interface_is m.method_is m.type_is)
 
 -- The answers there are: none of the header, with a verdict before 12; or a whole message's, refused by its header or read.
 data Result (d : List ℕ) (e : Expected) (t : Table) (room : ℕ) : MessageReading → Type 0 where
@@ -151,57 +151,57 @@ module _ (d : List ℕ) (e : Expected) (t : Table) (room : ℕ) where
     few : t.count ≤ 64
     few = few_rows t a.table_fits_lem
 
-    result-headed : Whole d → Answer
-    result-headed w = by_version (eqb (version_of d) protocol_version) refl
+    result_headed : Whole d → Answer
+    result_headed w = by_version (eqb (version_of d) protocol_version) refl
       where
         out : (v : Verdict) → header_verdict d e ≡ v → (verdict_number v ≡ 0 → ⊥) → in_range 12 16 (verdict_number v) ≡ true → GivenWhen d e t room v → Answer
-        out v q n i g = ask (answer-refused d e t room a w v q n) (refused a w i g)
+        out v q n i g = ask (answer_refused d e t room a w v q n) (refused a w i g)
 
-        by-type : version_of d ≡ protocol_version → service_of d ≡ e.service.0 → interface_of d ≡ e.interface → method_of d ≡ e.method.0
+        by_type : version_of d ≡ protocol_version → service_of d ≡ e.service.0 → interface_of d ≡ e.interface → method_of d ≡ e.method.0
             → (b : Bool) → eqb (type_of d) e.kind.0 ≡ b → Answer
-        by-type v s i m true q =
+        by_type v s i m true q =
             let ms : Matches d e = record { version_is = v; service_is = s; interface_is = i; method_is = m; type_is = eqb-true (type_of d) e.kind.0 q } in
-            ask (answer-read d e t room a w ms) (read a w ms)
-        by-type v s i m false q =
+            ask (answer_read d e t room a w ms) (read a w ms)
+        by_type v s i m false q =
             let n = eqb-false (type_of d) e.kind.0 q in
-            out MessageType (verdict-type d e v s i m n) (λ z. omega arith) refl (a, w, v, s, i, m, n)
+            out MessageType (verdict_type d e v s i m n) (λ z. omega arith) refl (a, w, v, s, i, m, n)
 
-        by-method : version_of d ≡ protocol_version → service_of d ≡ e.service.0 → interface_of d ≡ e.interface
+        by_method : version_of d ≡ protocol_version → service_of d ≡ e.service.0 → interface_of d ≡ e.interface
             → (b : Bool) → eqb (method_of d) e.method.0 ≡ b → Answer
-        by-method v s i true q = by-type v s i (eqb-true (method_of d) e.method.0 q) (eqb (type_of d) e.kind.0) refl
-        by-method v s i false q =
+        by_method v s i true q = by_type v s i (eqb-true (method_of d) e.method.0 q) (eqb (type_of d) e.kind.0) refl
+        by_method v s i false q =
             let n = eqb-false (method_of d) e.method.0 q in
-            out Method (verdict-method d e v s i n) (λ z. omega arith) refl (a, w, v, s, i, n)
+            out Method (verdict_method d e v s i n) (λ z. omega arith) refl (a, w, v, s, i, n)
 
-        by-interface : version_of d ≡ protocol_version → service_of d ≡ e.service.0 → (b : Bool) → eqb (interface_of d) e.interface ≡ b → Answer
-        by-interface v s true q = by-method v s (eqb-true (interface_of d) e.interface q) (eqb (method_of d) e.method.0) refl
-        by-interface v s false q =
+        by_interface : version_of d ≡ protocol_version → service_of d ≡ e.service.0 → (b : Bool) → eqb (interface_of d) e.interface ≡ b → Answer
+        by_interface v s true q = by_method v s (eqb-true (interface_of d) e.interface q) (eqb (method_of d) e.method.0) refl
+        by_interface v s false q =
             let n = eqb-false (interface_of d) e.interface q in
-            out Interface (verdict-interface d e v s n) (λ z. omega arith) refl (a, w, v, s, n)
+            out Interface (verdict_interface d e v s n) (λ z. omega arith) refl (a, w, v, s, n)
 
-        by-service : version_of d ≡ protocol_version → (b : Bool) → eqb (service_of d) e.service.0 ≡ b → Answer
-        by-service v true q = by-interface v (eqb-true (service_of d) e.service.0 q) (eqb (interface_of d) e.interface) refl
-        by-service v false q =
+        by_service : version_of d ≡ protocol_version → (b : Bool) → eqb (service_of d) e.service.0 ≡ b → Answer
+        by_service v true q = by_interface v (eqb-true (service_of d) e.service.0 q) (eqb (interface_of d) e.interface) refl
+        by_service v false q =
             let n = eqb-false (service_of d) e.service.0 q in
-            out Service (verdict-service d e v n) (λ z. omega arith) refl (a, w, v, n)
+            out Service (verdict_service d e v n) (λ z. omega arith) refl (a, w, v, n)
 
         by_version : (b : Bool) → eqb (version_of d) protocol_version ≡ b → Answer
-        by_version true q = by-service (eqb-true (version_of d) protocol_version q) (eqb (service_of d) e.service.0) refl
+        by_version true q = by_service (eqb-true (version_of d) protocol_version q) (eqb (service_of d) e.service.0) refl
         by_version false q =
             let n = eqb-false (version_of d) protocol_version q in
             out Protocol (verdict_version d e n) (λ z. omega arith) refl (a, w, n)
 
-    result-asked : (b c : Bool) → ltb (length d) header_len ≡ b → length_fails (length_of d) (length d) ≡ c → Answer
-    result-asked true c eb ec =
+    result_asked : (b c : Bool) → ltb (length d) header_len ≡ b → length_fails (length_of d) (length d) ≡ c → Answer
+    result_asked true c eb ec =
         let h = ltb-true (length d) header_len eb in
-        ask (answer-short d e t room a h) (bare refl (a, h) refl a.room_fits few)
-    result-asked false true eb ec =
+        ask (answer_short d e t room a h) (bare refl (a, h) refl a.room_fits few)
+    result_asked false true eb ec =
         let h = ltb-false (length d) header_len eb in
-        ask (answer-length d e t room a h ec) (bare refl (a, h, length_fails_by (length_of d) (length d) ec) refl a.room_fits few)
-    result-asked false false eb ec =
+        ask (answer_length d e t room a h ec) (bare refl (a, h, length_fails_by (length_of d) (length d) ec) refl a.room_fits few)
+    result_asked false false eb ec =
         let h = ltb-false (length d) header_len eb in
         let l = length_fine (length_of d) (length d) ec in
-        result-headed (record { header_in_lem = h; length_least = l.0; end_in = l.1 })
+        result_headed (record { header_in_lem = h; length_least = l.0; end_in = l.1 })
 
   result : Answer
   result = go (is_one e.kind.0) (table_fits t) (ltb room t.count) refl refl refl
@@ -213,7 +213,7 @@ module _ (d : List ℕ) (e : Expected) (t : Table) (room : ℕ) where
           let h = ltb-true room t.count eb in
           ask (answer_room d e t room ek ef h) (bare refl (ek, ef, h) refl (omega arith) (omega arith))
       go true true false ek ef eb =
-          result-asked (record { kind_one = ek; table_fits_lem = ef; room_fits = ltb-false room t.count eb })
+          result_asked (record { kind_one = ek; table_fits_lem = ef; room_fits = ltb-false room t.count eb })
           (ltb (length d) header_len) (length_fails (length_of d) (length d)) refl refl
 
 -- ---- each verdict exactly when
@@ -226,49 +226,49 @@ payload_length d w = length-slice header_len (end_of d) d w.end_in ∙ omega ari
 module _ (d : List ℕ) (e : Expected) (t : Table) (room : ℕ) where
   module _ (a : Asked e t room) (w : Whole d) (m : Matches d e) where
     -- a walk's verdict is the message's
-    walk-given : (v : Verdict) → ByWalk v → (reading_of (payload_of d) t room).verdict ≡ v → GivenWhen d e t room v
-    walk-given NoTable b q = absurd (true_false (sym b))
-    walk-given Room b q = absurd (true_false (sym b))
-    walk-given Short b q = absurd (true_false (sym b))
-    walk-given Length b q = absurd (true_false (sym b))
-    walk-given Protocol b q = absurd (true_false (sym b))
-    walk-given Service b q = absurd (true_false (sym b))
-    walk-given Interface b q = absurd (true_false (sym b))
-    walk-given Method b q = absurd (true_false (sym b))
-    walk-given MessageType b q = absurd (true_false (sym b))
-    walk-given Large b q = absurd (true_false (sym b))
-    walk-given Accepted b q = absurd (true_false (sym b))
-    walk-given TagCut b q = (a, w, m, q)
-    walk-given Wire b q = (a, w, m, q)
-    walk-given Twice b q = (a, w, m, q)
-    walk-given FieldCut b q = (a, w, m, q)
-    walk-given Overrun b q = (a, w, m, q)
-    walk-given Array b q = (a, w, m, q)
-    walk-given Text b q = (a, w, m, q)
-    walk-given Missing b q = (a, w, m, q)
-    walk-given Value b q = absurd (true_false (sym b))
-    walk-given Outside b q = absurd (true_false (sym b))
-    walk-given Wide b q = absurd (true_false (sym b))
-    walk-given Heavy b q = absurd (true_false (sym b))
+    walk_given : (v : Verdict) → ByWalk v → (reading_of (payload_of d) t room).verdict ≡ v → GivenWhen d e t room v
+    walk_given NoTable b q = absurd (true_false (sym b))
+    walk_given Room b q = absurd (true_false (sym b))
+    walk_given Short b q = absurd (true_false (sym b))
+    walk_given Length b q = absurd (true_false (sym b))
+    walk_given Protocol b q = absurd (true_false (sym b))
+    walk_given Service b q = absurd (true_false (sym b))
+    walk_given Interface b q = absurd (true_false (sym b))
+    walk_given Method b q = absurd (true_false (sym b))
+    walk_given MessageType b q = absurd (true_false (sym b))
+    walk_given Large b q = absurd (true_false (sym b))
+    walk_given Accepted b q = absurd (true_false (sym b))
+    walk_given TagCut b q = (a, w, m, q)
+    walk_given Wire b q = (a, w, m, q)
+    walk_given Twice b q = (a, w, m, q)
+    walk_given FieldCut b q = (a, w, m, q)
+    walk_given Overrun b q = (a, w, m, q)
+    walk_given Array b q = (a, w, m, q)
+    walk_given Text b q = (a, w, m, q)
+    walk_given Missing b q = (a, w, m, q)
+    walk_given Value b q = absurd (true_false (sym b))
+    walk_given Outside b q = absurd (true_false (sym b))
+    walk_given Wide b q = absurd (true_false (sym b))
+    walk_given Heavy b q = absurd (true_false (sym b))
 
-    outcome-given : {r : Reading} → Outcome (payload_of d) t room r → reading_of (payload_of d) t room ≡ r → GivenWhen d e t room r.verdict
-    outcome-given (no_table f) q = absurd (true_false (sym a.table_fits_lem ∙ f))
-    outcome-given (no_room f h) q = absurd (omega (arith, a.room_fits))
-    outcome-given (too_large f h l) q = (a, w, m, rw (payload_length d w) at l)
-    outcome-given (is_refused {v = v} h x b p) q = walk-given v b (ap (λ (r : Reading). r.verdict) q)
-    outcome-given (is_accepted h x s) q = (a, w, m, ap (λ (r : Reading). r.verdict) q)
+    outcome_given : {r : Reading} → Outcome (payload_of d) t room r → reading_of (payload_of d) t room ≡ r → GivenWhen d e t room r.verdict
+    outcome_given (no_table f) q = absurd (true_false (sym a.table_fits_lem ∙ f))
+    outcome_given (no_room f h) q = absurd (omega (arith, a.room_fits))
+    outcome_given (too_large f h l) q = (a, w, m, rw (payload_length d w) at l)
+    outcome_given (is_refused {v = v} h x b p) q = walk_given v b (ap (λ (r : Reading). r.verdict) q)
+    outcome_given (is_accepted h x s) q = (a, w, m, ap (λ (r : Reading). r.verdict) q)
 
-    outcome-large : {r : Reading} → Outcome (payload_of d) t room r → payload_most < length_of d - 8 → r.verdict ≡ Large
-    outcome-large (no_table f) l = absurd (true_false (sym a.table_fits_lem ∙ f))
-    outcome-large (no_room f h) l = absurd (omega (arith, a.room_fits))
-    outcome-large (too_large f h k) l = refl
-    outcome-large (is_refused h x b p) l = absurd (omega (arith, payload_length d w, h.size_fits))
-    outcome-large (is_accepted h x s) l = absurd (omega (arith, payload_length d w, h.size_fits))
+    outcome_large : {r : Reading} → Outcome (payload_of d) t room r → payload_most < length_of d - 8 → r.verdict ≡ Large
+    outcome_large (no_table f) l = absurd (true_false (sym a.table_fits_lem ∙ f))
+    outcome_large (no_room f h) l = absurd (omega (arith, a.room_fits))
+    outcome_large (too_large f h k) l = refl
+    outcome_large (is_refused h x b p) l = absurd (omega (arith, payload_length d w, h.size_fits))
+    outcome_large (is_accepted h x s) l = absurd (omega (arith, payload_length d w, h.size_fits))
 
   result_given : {r : MessageReading} → Result d e t room r → GivenWhen d e t room r.reading.verdict
   result_given (bare y g f h k) = g
   result_given (refused a w i g) = g
-  result_given (read a w m) = outcome-given a w m (five_outcomes (payload_of d) t room) refl
+  result_given (read a w m) = outcome_given a w m (five_outcomes (payload_of d) t room) refl
 
   abbrev Gives : Verdict → Type 0
   Gives v = (message_of d e t room).reading.verdict ≡ v
@@ -277,23 +277,23 @@ module _ (d : List ℕ) (e : Expected) (t : Table) (room : ℕ) where
   says q = ap (λ (r : MessageReading). r.reading.verdict) q
 
   out_of_header : (a : Asked e t room) (w : Whole d) (v : Verdict) → header_verdict d e ≡ v → (verdict_number v ≡ 0 → ⊥) → Gives v
-  out_of_header a w v q n = says (answer-refused d e t room a w v q n)
+  out_of_header a w v q n = says (answer_refused d e t room a w v q n)
 
   by_payload : {v : Verdict} → Asked e t room × Whole d × Matches d e × ((reading_of (payload_of d) t room).verdict ≡ v) → Gives v
-  by_payload (a, w, m, q) = says (answer-read d e t room a w m) ∙ q
+  by_payload (a, w, m, q) = says (answer_read d e t room a w m) ∙ q
 
   when_gives : (v : Verdict) → GivenWhen d e t room v → Gives v
   when_gives NoTable (inl k) = says (answer_kind d e t room k)
   when_gives NoTable (inr f) = says (answer_table d e t room f)
   when_gives Room (k, f, h) = says (answer_room d e t room k f h)
-  when_gives Short (a, h) = says (answer-short d e t room a h)
-  when_gives Length (a, h, l) = says (answer-length d e t room a h (length_by_fails (length_of d) (length d) l))
+  when_gives Short (a, h) = says (answer_short d e t room a h)
+  when_gives Length (a, h, l) = says (answer_length d e t room a h (length_by_fails (length_of d) (length d) l))
   when_gives Protocol (a, w, n) = out_of_header a w Protocol (verdict_version d e n) (λ z. omega arith)
-  when_gives Service (a, w, v, n) = out_of_header a w Service (verdict-service d e v n) (λ z. omega arith)
-  when_gives Interface (a, w, v, s, n) = out_of_header a w Interface (verdict-interface d e v s n) (λ z. omega arith)
-  when_gives Method (a, w, v, s, i, n) = out_of_header a w Method (verdict-method d e v s i n) (λ z. omega arith)
-  when_gives MessageType (a, w, v, s, i, m, n) = out_of_header a w MessageType (verdict-type d e v s i m n) (λ z. omega arith)
-  when_gives Large (a, w, m, l) = by_payload (a, w, m, outcome-large a w m (five_outcomes (payload_of d) t room) l)
+  when_gives Service (a, w, v, n) = out_of_header a w Service (verdict_service d e v n) (λ z. omega arith)
+  when_gives Interface (a, w, v, s, n) = out_of_header a w Interface (verdict_interface d e v s n) (λ z. omega arith)
+  when_gives Method (a, w, v, s, i, n) = out_of_header a w Method (verdict_method d e v s i n) (λ z. omega arith)
+  when_gives MessageType (a, w, v, s, i, m, n) = out_of_header a w MessageType (verdict_type d e v s i m n) (λ z. omega arith)
+  when_gives Large (a, w, m, l) = by_payload (a, w, m, outcome_large a w m (five_outcomes (payload_of d) t room) l)
   when_gives Accepted g = by_payload g
   when_gives TagCut g = by_payload g
   when_gives Wire g = by_payload g
@@ -339,11 +339,11 @@ module _ (d : List ℕ) (e : Expected) (t : Table) (room : ℕ) where
   -- what a whole message's answer hands on
   handed_of : {r : MessageReading} → Result d e t room r → HandedOn d r
   unfolding head_at
-  handed_of (bare {v = v} y g f h k) = record { client-on = rw y; session-on = rw y; code-on = rw y }
-  handed_of (refused {v = v} a w i g) = let y = header_late v i in record { client-on = rw y; session-on = rw y; code-on = rw y }
+  handed_of (bare {v = v} y g f h k) = record { client_on = rw y; session_on = rw y; code_on = rw y }
+  handed_of (refused {v = v} a w i g) = let y = header_late v i in record { client_on = rw y; session_on = rw y; code_on = rw y }
   handed_of (read a w m) =
       let y = outcome_late (payload_of d) t room a.table_fits_lem a.room_fits (five_outcomes (payload_of d) t room) in
-      record { client-on = rw y; session-on = rw y; code-on = rw y }
+      record { client_on = rw y; session_on = rw y; code_on = rw y }
 
   -- Client ID, Session ID and Return Code are handed on as found, all 0 after 1, 2, 10 and 11.
   pub handed_on : HandedOn d (message_of d e t room)
@@ -388,25 +388,25 @@ module _ (d : List ℕ) (w : Whole d) where
   unfolding head_at payload_shown
   headed_parts r y =
       record {
-        none-given = λ n. absurd (true_false (sym n ∙ y));
-        rest-given = λ n. rest_is;
-        payload-none = λ i. rw i;
-        both-given = λ n.
+        none_given = λ n. absurd (true_false (sym n ∙ y));
+        rest_given = λ n. rest_is;
+        payload_none = λ i. rw i;
+        both_given = λ n.
             let i = none_between (verdict_number r.verdict) n in
             let s : end_of d - header_len ≡ length_of d - 8 = omega arith in
             (rw (i, s), rw i payload_is);
-        whole-datagram = λ n. rw (none_between (verdict_number r.verdict) n, payload_is, rest_is) all_is;
+        whole_datagram = λ n. rw (none_between (verdict_number r.verdict) n, payload_is, rest_is) all_is;
       }
 
 module _ (d : List ℕ) (e : Expected) (t : Table) (room : ℕ) where
   parts_of_lem : {r : MessageReading} → Result d e t room r → PartsLaw d r
   parts_of_lem (bare {v = v} y g f h k) =
       record {
-        none-given = λ n. (refl, refl);
-        rest-given = λ n. absurd (true_false (sym y ∙ n));
-        payload-none = λ i. refl;
-        both-given = λ n. absurd (early_in v y n);
-        whole-datagram = λ n. absurd (early_in v y n);
+        none_given = λ n. (refl, refl);
+        rest_given = λ n. absurd (true_false (sym y ∙ n));
+        payload_none = λ i. refl;
+        both_given = λ n. absurd (early_in v y n);
+        whole_datagram = λ n. absurd (early_in v y n);
       }
   parts_of_lem (refused {v = v} a w i g) = headed_parts d w (cleared t.count v 0) (header_late v i)
   parts_of_lem (read a w m) =

@@ -44,81 +44,81 @@ module _ (d : List ℕ) (e : Expected) (t : Table) (room : ℕ) (cells : List �
       })
 
   module _ (one : Bool) (ke : one ≡ is_one e.kind.0) where
-    pub opened-kind : one ≡ false → (o : Opening) → o ≡ shut_of NoTable 0 → Opened d e t room cells o
+    pub opened_kind : one ≡ false → (o : Opening) → o ≡ shut_of NoTable 0 → Opened d e t room cells o
     unfolding message_of
-    opened-kind k = shut_opens NoTable 0 (λ z. omega (arith, z)) (rw (sym ke ∙ k))
+    opened_kind k = shut_opens NoTable 0 (λ z. omega (arith, z)) (rw (sym ke ∙ k))
 
     module _ (k : one ≡ true) (fits : Bool) (c : Checked t cells fits) where
-      pub opened-table : fits ≡ false → (o : Opening) → o ≡ shut_of NoTable 0 → Opened d e t room cells o
+      pub opened_table : fits ≡ false → (o : Opening) → o ≡ shut_of NoTable 0 → Opened d e t room cells o
       unfolding message_of
-      opened-table f = shut_opens NoTable 0 (λ z. omega (arith, z)) (rw (sym ke ∙ k, sym c.answer ∙ f))
+      opened_table f = shut_opens NoTable 0 (λ z. omega (arith, z)) (rw (sym ke ∙ k, sym c.answer ∙ f))
 
       module _ (f : fits ≡ true) where
-        pub opened-room : room < t.count → (o : Opening) → o ≡ shut_of Room 0 → Opened d e t room cells o
+        pub opened_room : room < t.count → (o : Opening) → o ≡ shut_of Room 0 → Opened d e t room cells o
         unfolding message_of
-        opened-room h = shut_opens Room 0 (λ z. omega (arith, z)) (rw (sym ke ∙ k, sym c.answer ∙ f, lt-ltb room t.count h))
+        opened_room h = shut_opens Room 0 (λ z. omega (arith, z)) (rw (sym ke ∙ k, sym c.answer ∙ f, lt-ltb room t.count h))
 
         module _ (r : t.count ≤ room) where
-          pub opened-short : length d < header_len → (o : Opening) → o ≡ shut_of Short t.count → Opened d e t room cells o
+          pub opened_short : length d < header_len → (o : Opening) → o ≡ shut_of Short t.count → Opened d e t room cells o
           unfolding message_of
-          opened-short h =
+          opened_short h =
               shut_opens Short t.count (λ z. omega (arith, z))
               (rw (sym ke ∙ k, sym c.answer ∙ f, le-ltb room t.count r, lt-ltb (length d) header_len h))
 
           module _ (s : header_len ≤ length d) (len : ℕ) (le : len ≡ length_of d) (bad : Bool) (be : bad ≡ length_fails len (length d)) where
-            fails-is : length_fails (length_of d) (length d) ≡ bad
-            fails-is = ap (λ (n : ℕ). length_fails n (length d)) (sym le) ∙ sym be
+            fails_is : length_fails (length_of d) (length d) ≡ bad
+            fails_is = ap (λ (n : ℕ). length_fails n (length d)) (sym le) ∙ sym be
 
-            pub opened-length : bad ≡ true → (o : Opening) → o ≡ shut_of Length t.count → Opened d e t room cells o
+            pub opened_length : bad ≡ true → (o : Opening) → o ≡ shut_of Length t.count → Opened d e t room cells o
             unfolding message_of
-            opened-length b =
+            opened_length b =
                 shut_opens Length t.count (λ z. omega (arith, z))
-                (rw (sym ke ∙ k, sym c.answer ∙ f, le-ltb room t.count r, le-ltb (length d) header_len s, fails-is ∙ b))
+                (rw (sym ke ∙ k, sym c.answer ∙ f, le-ltb room t.count r, le-ltb (length d) header_len s, fails_is ∙ b))
 
             module _ (b : bad ≡ false) (end : ℕ) (ee : end ≡ len + 8) (why : Verdict) (we : why ≡ header_verdict d e) where
-              message-headed : headed_of d e t room ≡ message_of d e t room
+              message_headed : headed_of d e t room ≡ message_of d e t room
               unfolding message_of
-              message-headed =
-                  rw (sym ke ∙ k, sym c.answer ∙ f, le-ltb room t.count r, le-ltb (length d) header_len s, fails-is ∙ b)
+              message_headed =
+                  rw (sym ke ∙ k, sym c.answer ∙ f, le-ltb room t.count r, le-ltb (length d) header_len s, fails_is ∙ b)
 
               end_is : end ≡ end_of d
               end_is = ee ∙ rw le (omega arith)
 
-              ends-fine : (header_len ≤ end) × (end ≤ length d)
-              ends-fine = let l = length_fine len (length d) (sym be ∙ b) in (omega (arith, l.0, ee), omega (arith, l.1, ee))
+              ends_fine : (header_len ≤ end) × (end ≤ length d)
+              ends_fine = let l = length_fine len (length d) (sym be ∙ b) in (omega (arith, l.0, ee), omega (arith, l.1, ee))
 
               payload_cut : take (end - header_len) (drop header_len d) ≡ payload_of d
               unfolding payload_of
-              payload_cut = cut_slice header_len end d ends-fine.0 ∙ rw end_is
+              payload_cut = cut_slice header_len end d ends_fine.0 ∙ rw end_is
 
-              message-refused : (verdict_number why ≡ 0 → ⊥) → (head : Head) → head ≡ head_at d end why
+              message_refused : (verdict_number why ≡ 0 → ⊥) → (head : Head) → head ≡ head_at d end why
                   → (reading : Reading) → reading ≡ cleared t.count why 0
                   → record { head = head; reading = reading } ≡ message_of d e t room
               unfolding headed_of
-              message-refused n head eh reading er =
-                  (rw (eh, er, end_is, we, ne_eqb (verdict_number (header_verdict d e)) 0 (λ z. n (ap verdict_number we ∙ z)))) ∙ message-headed
+              message_refused n head eh reading er =
+                  (rw (eh, er, end_is, we, ne_eqb (verdict_number (header_verdict d e)) 0 (λ z. n (ap verdict_number we ∙ z)))) ∙ message_headed
 
-              message-read : verdict_number why ≡ 0 → (reading : Reading)
+              message_read : verdict_number why ≡ 0 → (reading : Reading)
                   → reading ≡ checked_of (take (end - header_len) (drop header_len d)) (table_in t.count cells) t.count t.width
                   → (head : Head) → head ≡ head_at d end reading.verdict
                   → record { head = head; reading = reading } ≡ message_of d e t room
               unfolding headed_of
-              message-read z reading er head eh =
+              message_read z reading er head eh =
                   let e2 : reading ≡ reading_of (payload_of d) t room = er ∙ (rw payload_cut) ∙ checked_reads (payload_of d) t room cells fits c f r in
-                  (rw (eh, e2, end_is, eq-eqb (verdict_number (header_verdict d e)) 0 (sym (ap verdict_number we) ∙ z))) ∙ message-headed
+                  (rw (eh, e2, end_is, eq-eqb (verdict_number (header_verdict d e)) 0 (sym (ap verdict_number we) ∙ z))) ∙ message_headed
 
               given_by : (z : Bool) → eqb (verdict_number why) 0 ≡ z → (reading : Reading)
                   → reading ≡ after_of why (take (end - header_len) (drop header_len d)) (table_in t.count cells) t.count t.width
                   → (head : Head) → head ≡ head_at d end reading.verdict
                   → record { head = head; reading = reading } ≡ message_of d e t room
-              given_by true z reading er head eh = message-read (eqb-true (verdict_number why) 0 z) reading (er ∙ rw z) head eh
+              given_by true z reading er head eh = message_read (eqb-true (verdict_number why) 0 z) reading (er ∙ rw z) head eh
               given_by false z reading er head eh =
                   let cl : reading ≡ cleared t.count why 0 = er ∙ rw z in
-                  message-refused (eqb-false (verdict_number why) 0 z) head (eh ∙ ap (λ (x : Reading). head_at d end x.verdict) cl) reading cl
+                  message_refused (eqb-false (verdict_number why) 0 z) head (eh ∙ ap (λ (x : Reading). head_at d end x.verdict) cl) reading cl
 
-              pub opened-headed : (o : Opening) → o ≡ record { why = why; filled = t.count; from = header_len; end = end } → Opened d e t room cells o
-              opened-headed o eo =
-                  let x = ends-fine in
+              pub opened_headed : (o : Opening) → o ≡ record { why = why; filled = t.count; from = header_len; end = end } → Opened d e t room cells o
+              opened_headed o eo =
+                  let x = ends_fine in
                   rw eo
                   (record {
                     reads = λ reading er head eh. given_by (eqb (verdict_number why) 0) refl reading er head (eh ∙ rw (ne_eqb end 0 (λ z. omega (arith, z, x.0))));

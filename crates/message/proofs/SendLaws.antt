@@ -187,18 +187,18 @@ no_bytes (x ∷ xs) e = absurd (omega arith)
 module _ (h : Header) (rows : List Row) (room : ℕ) (t : Table) (buf old : List ℕ) where
   -- 1
   module _ (one : Bool) (ke : one ≡ is_one h.kind.0) (k : one ≡ false) where
-    pub kind-answer : (w : Written) → w ≡ answer_is (refused NoTable) → w ≡ message_writing h rows room t buf (length old)
+    pub kind_answer : (w : Written) → w ≡ answer_is (refused NoTable) → w ≡ message_writing h rows room t buf (length old)
     unfolding message_writing sending_of
-    kind-answer w e = e ∙ rw (sym ke ∙ k)
+    kind_answer w e = e ∙ rw (sym ke ∙ k)
 
-    pub kind-output : old ≡ message_output h rows room t buf old
+    pub kind_output : old ≡ message_output h rows room t buf old
     unfolding message_output sending_of output_is
-    kind-output = rw (sym ke ∙ k)
+    kind_output = rw (sym ke ∙ k)
 
   module _ (one : Bool) (ke : one ≡ is_one h.kind.0) (k : one ≡ true) where
-    sending-is : sending_of h rows room t buf (length old) ≡ framed h (length old) (outcome_of rows room t buf payload_most)
+    sending_is : sending_of h rows room t buf (length old) ≡ framed h (length old) (outcome_of rows room t buf payload_most)
     unfolding sending_of
-    sending-is = rw (sym ke ∙ k)
+    sending_is = rw (sym ke ∙ k)
 
     module _ (from : ℕ) (fe : from ≡ body_at (length old)) (w : Written) (part : List ℕ)
         (we : w ≡ writing_of rows room t buf (length (take (length old - from) (drop from old))))
@@ -209,11 +209,11 @@ module _ (h : Header) (rows : List Row) (room : ℕ) (t : Table) (buf old : List
 
       -- an output in which no header fits
       module _ (s : length old < header_len) where
-        at-end : from ≡ length old
-        at-end = fe ∙ rw (lt-ltb (length old) header_len s)
+        at_end_lem : from ≡ length old
+        at_end_lem = fe ∙ rw (lt-ltb (length old) header_len s)
 
         no_room : length (drop from old) ≡ 0
-        no_room = omega (arith, length-drop from old, at-end)
+        no_room = omega (arith, length-drop from old, at_end_lem)
 
         short : Short h old (outcome_of rows room t buf payload_most) w
         unfolding writing_of
@@ -221,80 +221,80 @@ module _ (h : Header) (rows : List Row) (room : ℕ) (t : Table) (buf old : List
             rw (we, whole_part from old, no_room, room_last rows room t buf 0)
             (short_by h old s (outcome_of rows room t buf payload_most) (done_exactly rows room t buf payload_most).refuses_truly)
 
-        pub short-room : verdict_number w.verdict ≡ 0 → (r : Written) → r ≡ answer_is (refused Room) → r ≡ message_writing h rows room t buf (length old)
+        pub short_room : verdict_number w.verdict ≡ 0 → (r : Written) → r ≡ answer_is (refused Room) → r ≡ message_writing h rows room t buf (length old)
         unfolding message_writing
-        short-room z r e = e ∙ short.no_room z ∙ rw sending-is
+        short_room z r e = e ∙ short.no_room z ∙ rw sending_is
 
-        short-answer : (verdict_number w.verdict ≡ 0 → ⊥) → w ≡ message_writing h rows room t buf (length old)
+        short_answer : (verdict_number w.verdict ≡ 0 → ⊥) → w ≡ message_writing h rows room t buf (length old)
         unfolding message_writing
-        short-answer z = short.same_answer z ∙ rw sending-is
+        short_answer z = short.same_answer z ∙ rw sending_is
 
-        pub short-output : left ≡ message_output h rows room t buf old
+        pub short_output : left ≡ message_output h rows room t buf old
         unfolding message_output
-        short-output =
+        short_output =
             let same = (write_settled rows room t buf (take (length old - from) (drop from old))).same_length in
             let p0 : part ≡ [] = no_bytes part (ap length pe ∙ same ∙ ap length (whole_part from old) ∙ no_room) in
             let d0 : drop from old ≡ [] = no_bytes (drop from old) no_room in
             (ap (λ (q : List ℕ). take from old ++ (q ++ drop (length old - from) (drop from old))) (p0 ∙ sym d0))
             ∙ part_back from old
             ∙ short.unchanged
-            ∙ rw sending-is
+            ∙ rw sending_is
 
       -- an output in which one does
       module _ (s : header_len ≤ length old) where
-        pub behind-header : from ≡ header_len
-        behind-header = fe ∙ rw (le-ltb (length old) header_len s)
+        pub behind_header : from ≡ header_len
+        behind_header = fe ∙ rw (le-ltb (length old) header_len s)
 
         long : Long h old (outcome_of rows room t buf payload_most) w part
         unfolding writing_of output_of
         long =
-            rw (we, pe, whole_part from old, behind-header, length-drop header_len old, room_last rows room t buf (length old - header_len))
+            rw (we, pe, whole_part from old, behind_header, length-drop header_len old, room_last rows room t buf (length old - header_len))
             (long_by h old s (outcome_of rows room t buf payload_most) (done_exactly rows room t buf payload_most).refuses_truly)
 
-        long-answer : (verdict_number w.verdict ≡ 0 → ⊥) → w ≡ message_writing h rows room t buf (length old)
+        long_answer : (verdict_number w.verdict ≡ 0 → ⊥) → w ≡ message_writing h rows room t buf (length old)
         unfolding message_writing
-        long-answer z = long.same_answer z ∙ rw sending-is
+        long_answer z = long.same_answer z ∙ rw sending_is
 
-        long-output : (verdict_number w.verdict ≡ 0 → ⊥) → left ≡ message_output h rows room t buf old
+        long_output : (verdict_number w.verdict ≡ 0 → ⊥) → left ≡ message_output h rows room t buf old
         unfolding message_output
-        long-output z = rw ((long.unchanged z).0, behind-header) (part_back header_len old ∙ (long.unchanged z).1 ∙ rw sending-is)
+        long_output z = rw ((long.unchanged z).0, behind_header) (part_back header_len old ∙ (long.unchanged z).1 ∙ rw sending_is)
 
         module _ (z : verdict_number w.verdict ≡ 0) where
           -- few enough that their number fits
-          pub body-few : (w.len ≤ payload_most) × (header_len + w.len ≤ length old)
-          body-few =
+          pub body_few : (w.len ≤ payload_most) × (header_len + w.len ≤ length old)
+          body_few =
               let c = long.carried z in
               (rw we (write_settled rows room t buf (take (length old - from) (drop from old))).most, omega (arith, c.len_is, c.fits))
 
-          pub done-answer : record { verdict = Accepted; len = header_len + w.len } ≡ message_writing h rows room t buf (length old)
+          pub done_answer : record { verdict = Accepted; len = header_len + w.len } ≡ message_writing h rows room t buf (length old)
           unfolding message_writing answer_is
-          done-answer =
+          done_answer =
               let c = long.carried z in
               ap (λ (n : ℕ). record { verdict = Accepted; len = header_len + n }) c.len_is
-              ∙ rw (sending-is, c.sent, message_size h c.payload)
+              ∙ rw (sending_is, c.sent, message_size h c.payload)
 
-          pub done-output : (after : List ℕ) → after ≡ sets left 0 (header_bytes h w.len) → after ≡ message_output h rows room t buf old
+          pub done_output : (after : List ℕ) → after ≡ sets left 0 (header_bytes h w.len) → after ≡ message_output h rows room t buf old
           unfolding message_output output_is behind
-          done-output after e =
+          done_output after e =
               let c = long.carried z in
               let back : List ℕ → List ℕ = λ q. take header_len old ++ (q ++ drop (length old - header_len) (drop header_len old)) in
               e
-              ∙ ap (λ (m : ℕ). sets (take m old ++ (part ++ drop (length old - m) (drop m old))) 0 (header_bytes h w.len)) behind-header
+              ∙ ap (λ (m : ℕ). sets (take m old ++ (part ++ drop (length old - m) (drop m old))) 0 (header_bytes h w.len)) behind_header
               ∙ ap (λ (n : ℕ). sets (back part) 0 (header_bytes h n)) c.len_is
               ∙ ap (λ (q : List ℕ). sets (back q) 0 (header_bytes h (length c.payload))) c.part_is
               ∙ framed_output h old c.payload c.fits
-              ∙ rw (sending-is, c.sent)
+              ∙ rw (sending_is, c.sent)
 
-      pub body-answer : (verdict_number w.verdict ≡ 0 → ⊥) → w ≡ message_writing h rows room t buf (length old)
-      body-answer z = go (ltb (length old) header_len) refl
+      pub body_answer : (verdict_number w.verdict ≡ 0 → ⊥) → w ≡ message_writing h rows room t buf (length old)
+      body_answer z = go (ltb (length old) header_len) refl
         where
           go : (b : Bool) → ltb (length old) header_len ≡ b → w ≡ message_writing h rows room t buf (length old)
-          go true e = short-answer (ltb-true (length old) header_len e) z
-          go false e = long-answer (ltb-false (length old) header_len e) z
+          go true e = short_answer (ltb-true (length old) header_len e) z
+          go false e = long_answer (ltb-false (length old) header_len e) z
 
-      pub body-output : (verdict_number w.verdict ≡ 0 → ⊥) → left ≡ message_output h rows room t buf old
-      body-output z = go (ltb (length old) header_len) refl
+      pub body_output : (verdict_number w.verdict ≡ 0 → ⊥) → left ≡ message_output h rows room t buf old
+      body_output z = go (ltb (length old) header_len) refl
         where
           go : (b : Bool) → ltb (length old) header_len ≡ b → left ≡ message_output h rows room t buf old
-          go true e = short-output (ltb-true (length old) header_len e)
-          go false e = long-output (ltb-false (length old) header_len e) z
+          go true e = short_output (ltb-true (length old) header_len e)
+          go false e = long_output (ltb-false (length old) header_len e) z

@@ -21,7 +21,7 @@ use Rattle.message.specs.Header.{header_bytes, Fitting}
 use Rattle.message.specs.Writing.{message_bytes, sending_of, message_writing, message_output}
 use Rattle.message.specs.Sent.{HeaderPlaces, Sends, SentSettled, OneSending}
 use Rattle.message.proofs.SendLaws.{header_size, message_size, part_front}
-use Rattle.message.proofs.Given.{sending-given, given-sending, sending_truly}
+use Rattle.message.proofs.Given.{sending_given, given_sending, sending_truly}
 
 -- ---- the header's bytes by number
 
@@ -65,7 +65,7 @@ module _ (h : Header) (rows : List Row) (room : ℕ) (t : Table) (buf : List ℕ
   given_sends : (space : ℕ) (m : List ℕ) → sending_of h rows room t buf space ≡ done m
       → Sends h rows room t buf space × (m ≡ message_bytes h (payload_of t buf rows))
   given_sends space m e =
-      let g = sending-given h rows room t buf space m e in
+      let g = sending_given h rows room t buf space m e in
       let d = (done_exactly rows room t buf payload_most).done_meets g.payload g.outcome in (
         record { kind_one = g.kind_one; accepts = d.0; fits = rw (← d.1) g.fits },
         g.message_is ∙ ap (message_bytes h) d.1,
@@ -73,7 +73,7 @@ module _ (h : Header) (rows : List Row) (room : ℕ) (t : Table) (buf : List ℕ
 
   sends_given : (space : ℕ) → Sends h rows room t buf space → sending_of h rows room t buf space ≡ done (message_bytes h (payload_of t buf rows))
   sends_given space s =
-      given-sending h rows room t buf space (message_bytes h (payload_of t buf rows))
+      given_sending h rows room t buf space (message_bytes h (payload_of t buf rows))
       (record {
         payload = payload_of t buf rows;
         kind_one = s.kind_one;
@@ -112,23 +112,23 @@ module _ (h : Header) (rows : List Row) (room : ℕ) (t : Table) (buf : List ℕ
         ∙ rw (message_size h (payload_of t buf rows)))
 
     -- header, payload, and then the old bytes
-    output-parts : Sends h rows room t buf (length old) → message_output h rows room t buf old
+    output_parts : Sends h rows room t buf (length old) → message_output h rows room t buf old
         ≡ header_bytes h (length (payload_of t buf rows)) ++ (payload_of t buf rows ++ drop (header_len + length (payload_of t buf rows)) old)
     unfolding message_bytes
-    output-parts s = output s ∙ append_assoc (header_bytes h (length (payload_of t buf rows))) (payload_of t buf rows) (drop (header_len + length (payload_of t buf rows)) old)
+    output_parts s = output s ∙ append_assoc (header_bytes h (length (payload_of t buf rows))) (payload_of t buf rows) (drop (header_len + length (payload_of t buf rows)) old)
 
     places : Fitting h → Sends h rows room t buf (length old) → HeaderPlaces h (length (payload_of t buf rows)) (message_output h rows room t buf old)
     places f s =
-        rw (output-parts s)
+        rw (output_parts s)
         (header_places h (length (payload_of t buf rows)) (payload_of t buf rows ++ drop (header_len + length (payload_of t buf rows)) old) f s.accepts.light)
 
-    payload-bytes : Sends h rows room t buf (length old) → (i : ℕ) → i < length (payload_of t buf rows)
+    payload_bytes : Sends h rows room t buf (length old) → (i : ℕ) → i < length (payload_of t buf rows)
         → get_or (message_output h rows room t buf old) (header_len + i) 0 ≡ get_or (payload_of t buf rows) i 0
-    payload-bytes s i l =
+    payload_bytes s i l =
         let hb = header_bytes h (length (payload_of t buf rows)) in
         let rest = drop (header_len + length (payload_of t buf rows)) old in
         let z : header_len + i ≡ length hb + i = omega (arith, header_size h (length (payload_of t buf rows))) in
-        rw (output-parts s, z)
+        rw (output_parts s, z)
         (get_or-append-add hb (payload_of t buf rows ++ rest) i 0 ∙ get_or-append (payload_of t buf rows) rest 0 i l)
 
     kept : ((message_writing h rows room t buf (length old)).verdict ≡ Accepted → ⊥)
@@ -175,7 +175,7 @@ sent_settled h rows room t buf old = record {
   answered = answered h rows room t buf (length old);
   output = output h rows room t buf old;
   places = places h rows room t buf old;
-  payload-bytes = payload-bytes h rows room t buf old;
+  payload_bytes = payload_bytes h rows room t buf old;
   kept = kept h rows room t buf old;
   most = (sizes h rows room t buf old).0;
   fitting = (sizes h rows room t buf old).1;

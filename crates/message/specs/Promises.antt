@@ -178,17 +178,17 @@ early v = in_range 1 11 (verdict_number v)
 
 module _ (d : List ℕ) (r : MessageReading) where
   pub record HandedOn : Type 0 where
-    pub client-on : r.head.client.0 ≡ pick (early r.reading.verdict) 0 (client_of d)
-    pub session-on : r.head.session.0 ≡ pick (early r.reading.verdict) 0 (session_of d)
-    pub code-on : r.head.found_code ≡ pick (early r.reading.verdict) 0 (code_of d)
+    pub client_on : r.head.client.0 ≡ pick (early r.reading.verdict) 0 (client_of d)
+    pub session_on : r.head.session.0 ≡ pick (early r.reading.verdict) 0 (session_of d)
+    pub code_on : r.head.found_code ≡ pick (early r.reading.verdict) 0 (code_of d)
 
   pub record PartsLaw : Type 0 where
-    pub none-given : early r.reading.verdict ≡ true → (r.head.payload ≡ no_part) × (r.head.rest ≡ no_part)
-    pub rest-given : early r.reading.verdict ≡ false → part_of d r.head.rest ≡ drop (end_of d) d
-    pub payload-none : in_range 12 17 (verdict_number r.reading.verdict) ≡ true → r.head.payload ≡ no_part
-    pub both-given : in_range 1 17 (verdict_number r.reading.verdict) ≡ false
+    pub none_given : early r.reading.verdict ≡ true → (r.head.payload ≡ no_part) × (r.head.rest ≡ no_part)
+    pub rest_given : early r.reading.verdict ≡ false → part_of d r.head.rest ≡ drop (end_of d) d
+    pub payload_none : in_range 12 17 (verdict_number r.reading.verdict) ≡ true → r.head.payload ≡ no_part
+    pub both_given : in_range 1 17 (verdict_number r.reading.verdict) ≡ false
         → (r.head.payload ≡ part header_len (length_of d - 8)) × (part_of d r.head.payload ≡ payload_of d)
-    pub whole-datagram : in_range 1 17 (verdict_number r.reading.verdict) ≡ false
+    pub whole_datagram : in_range 1 17 (verdict_number r.reading.verdict) ≡ false
         → d ≡ take header_len d ++ (part_of d r.head.payload ++ part_of d r.head.rest)
 
 -- M5. Client ID, Session ID and Return Code are handed on as found, all 0 after 1, 2, 10 and 11.

@@ -62,7 +62,7 @@ module _ (h : Header) (rows : List Row) (room : ℕ) (t : Table) (buf old : List
     pub output : Sends h rows room t buf (length old) → after ≡ message_bytes h (payload_of t buf rows) ++ drop (header_len + size) old
     -- each header field is at its place, and the payload behind it
     pub places : Fitting h → Sends h rows room t buf (length old) → HeaderPlaces h size after
-    pub payload-bytes : Sends h rows room t buf (length old) → (i : ℕ) → i < size → byte after (header_len + i) ≡ byte (payload_of t buf rows) i
+    pub payload_bytes : Sends h rows room t buf (length old) → (i : ℕ) → i < size → byte after (header_len + i) ≡ byte (payload_of t buf rows) i
     -- else it is as it was, and the length is 0
     pub kept : (answer.verdict ≡ Accepted → ⊥) → (after ≡ old) × (answer.len ≡ 0)
     pub most : answer.len ≤ header_len + payload_most

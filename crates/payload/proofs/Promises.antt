@@ -33,7 +33,7 @@ use Rattle.payload.proofs.Writing.WriteWhen as verdicts
 use Rattle.payload.proofs.Writing.RoomLaws as rooms
 use Rattle.payload.proofs.Paths.Demand3 as paths
 use Rattle.payload.proofs.Paths.Demand3Cases as path-cases
-use Rattle.payload.proofs.Paths.ByPath as by-path
+use Rattle.payload.proofs.Paths.ByPath as by_path
 use Rattle.payload.proofs.Rules.CheckLaws.{fits_tests}
 use Rattle.payload.proofs.Walking.ReadLaws.{checked_reading}
 use Rattle.payload.specs.Demand2.{Demand2Holds, Demand2Answered, CasesWritten, CasesBack}
@@ -108,7 +108,7 @@ pub demand3_shown : Demand3Shown
 demand3_shown = path-cases.demand3_shown
 
 pub read_by_paths : ReadByPaths
-read_by_paths = by-path.read_by_paths
+read_by_paths = by_path.read_by_paths
 
 pub checked_reads : CheckedReads
 checked_reads = checked_reading

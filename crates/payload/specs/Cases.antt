@@ -16,10 +16,10 @@ row level ident kind required = record { level = level; ident = ident; kind = ki
 
 -- width 1 told in the tag
 unfoldable pub table_w : Table
-table_w = record { rows = rowsW ++ replicate 59 no_row; count = 5; width = 1; fixed = false }
+table_w = record { rows = rows_w ++ replicate 59 no_row; count = 5; width = 1; fixed = false }
   where
-    rowsW : List TypeRow
-    rowsW =
+    rows_w : List TypeRow
+    rows_w =
         row 1 1 4 false  -- 1/1/uint32 optional (time)
         ∷ row 1 2 7 true  -- 1/2/sint16 required
         ∷ row 1 5 14 false  -- 1/5/struct optional

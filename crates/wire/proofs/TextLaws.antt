@@ -44,40 +44,40 @@ module _ (p : List ℕ) (end i : ℕ) where
   text_end e = rw (e, slice_empty end p)
 
   module _ (h : i < end) (in_p : end ≤ length p) where
-    pub text-bad : following (get_or p i 0) ≡ 4 → text_fits (slice i end p) ≡ false
+    pub text_bad : following (get_or p i 0) ≡ 4 → text_fits (slice i end p) ≡ false
     unfolding text_from
-    text-bad e = rw (slice-cons i end p 0 h in_p, eq-eqb (following (get_or p i 0)) 4 e)
+    text_bad e = rw (slice-cons i end p 0 h in_p, eq-eqb (following (get_or p i 0)) 4 e)
 
-    pub text-first : (following (get_or p i 0) ≡ 4 → ⊥) → text_fits (slice i end p) ≡ text_from (following (get_or p i 0)) (slice (i + 1) end p)
+    pub text_first : (following (get_or p i 0) ≡ 4 → ⊥) → text_fits (slice i end p) ≡ text_from (following (get_or p i 0)) (slice (i + 1) end p)
     unfolding text_from
-    text-first e = rw (slice-cons i end p 0 h in_p, add-one i, ne_eqb (following (get_or p i 0)) 4 e)
+    text_first e = rw (slice-cons i end p 0 h in_p, add-one i, ne_eqb (following (get_or p i 0)) 4 e)
 
-    pub text-plain : eqb (following (get_or p i 0)) 0 ≡ true → text_fits (slice i end p) ≡ text_fits (slice (i + 1) end p)
-    text-plain e =
+    pub text_plain : eqb (following (get_or p i 0)) 0 ≡ true → text_fits (slice i end p) ≡ text_fits (slice (i + 1) end p)
+    text_plain e =
         let z = eqb-true (following (get_or p i 0)) 0 e in
-        text-first (λ d. omega arith) ∙ ap (λ (k : ℕ). text_from k (slice (i + 1) end p)) z
+        text_first (λ d. omega arith) ∙ ap (λ (k : ℕ). text_from k (slice (i + 1) end p)) z
 
     -- a character of more bytes: r says whether they follow
-    pub text-follow : (n : ℕ) → n ≡ following (get_or p i 0) → (n ≡ 4 → ⊥) → (r b : Bool) → r ≡ b
+    pub text_follow : (n : ℕ) → n ≡ following (get_or p i 0) → (n ≡ 4 → ⊥) → (r b : Bool) → r ≡ b
         → text_from n (slice (i + 1) end p) ≡ and r (text_fits (slice (i + 1 + n) end p)) → text_fits (slice i end p) ≡ and b (text_fits (slice (i + 1 + n) end p))
-    text-follow n e ne r b d t =
-        text-first (λ z. ne (e ∙ z))
+    text_follow n e ne r b d t =
+        text_first (λ z. ne (e ∙ z))
         ∙ ap (λ (k : ℕ). text_from k (slice (i + 1) end p)) (sym e)
         ∙ t
         ∙ ap (λ (a : Bool). and a (text_fits (slice (i + 1 + n) end p))) d
 
     module _ (k : ℕ) (some : 0 < k) where
-      pub text-stop : follows (get_or p i 0) ≡ false → text_from k (slice i end p) ≡ false
+      pub text_stop : follows (get_or p i 0) ≡ false → text_from k (slice i end p) ≡ false
       unfolding text_from
-      text-stop e = go k some
+      text_stop e = go k some
         where
           go : (k : ℕ) → 0 < k → text_from k (slice i end p) ≡ false
           go zero some = absurd (omega arith)
           go (suc k) some = rw (slice-cons i end p 0 h in_p, e)
 
-      pub text-next : follows (get_or p i 0) ≡ true → text_from k (slice i end p) ≡ text_from (k - 1) (slice (i + 1) end p)
+      pub text_next : follows (get_or p i 0) ≡ true → text_from k (slice i end p) ≡ text_from (k - 1) (slice (i + 1) end p)
       unfolding text_from
-      text-next e = go k some
+      text_next e = go k some
         where
           go : (k : ℕ) → 0 < k → text_from k (slice i end p) ≡ text_from (k - 1) (slice (i + 1) end p)
           go zero some = absurd (omega arith)
@@ -86,12 +86,12 @@ module _ (p : List ℕ) (end i : ℕ) where
 -- a plain byte among the four at a place
 module _ (p : List ℕ) (end at : ℕ) (h : at + 4 ≤ end) (in_p : end ≤ length p) where
   pub plain_first : eqb (following (get_or p at 0)) 0 ≡ true → text_fits (slice at end p) ≡ text_fits (slice (at + 1) end p)
-  plain_first e = text-plain p end at (omega arith) in_p e
+  plain_first e = text_plain p end at (omega arith) in_p e
 
   pub plain_next : (k : ℕ) → k < 4 → eqb (following (get_or p (at + k) 0)) 0 ≡ true → text_fits (slice (at + k) end p) ≡ text_fits (slice (at + suc k) end p)
   plain_next k few e =
       let z : at + k + 1 ≡ at + suc k = omega arith in
-      text-plain p end (at + k) (omega arith) in_p e ∙ ap (λ (j : ℕ). text_fits (slice j end p)) z
+      text_plain p end (at + k) (omega arith) in_p e ∙ ap (λ (j : ℕ). text_fits (slice j end p)) z
 
 -- ---- a string's content, by places
 

@@ -22,7 +22,7 @@ use Rattle.payload.proofs.Trees.Level.{true_false}
 use Rattle.payload.proofs.Trees.Seen.{met_first}
 use Rattle.payload.proofs.Trees.Accepted.{fits_differ, walked_reading}
 use Rattle.payload.proofs.Round.Lying.{lies_whole}
-use Rattle.payload.proofs.Paths.Fitting.{Ends, none-lacks, some-lacks, fits_ends}
+use Rattle.payload.proofs.Paths.Fitting.{Ends, none_lacks, some_lacks, fits_ends}
 use Rattle.payload.proofs.Paths.Lacking.{fits_lacks, lacks_fits}
 
 refused_reading : (p : List ℕ) (t : Table) (room : ℕ) → Walks p t room → (place : ℕ) → walked_of t.width (type_rows t) p ≡ refused Missing place
@@ -43,15 +43,15 @@ module _ (t : Table) (room : ℕ) (m : Members) (walks : Walks (bytes_of t.width
 
   by_ends : Ends t.width types (fits_differ t walks.table_fits_lem) payload 1 0 0 m start → TreeRead t payload m (reading_of payload t room)
   unfolding walked_of
-  by_ends (none-lacks q rows w fill) =
+  by_ends (none_lacks q rows w fill) =
       let e : walked_of t.width types payload ≡ walked rows (unknowns types 1 0 m) =
       w (suc (length payload)) 0 (omega arith) ∙ ap (walked rows) (add-zero (unknowns types 1 0 m)) in
       rw (walked_reading payload t room walks rows (unknowns types 1 0 m) e)
       (all_there rows (λ above h. true_false (sym (lacks_fits t.width types (fits_differ t walks.table_fits_lem) fits above h) ∙ q))
-      (fill.kept.size ∙ length-replicate (length types) absent_row) fill.by-path)
-  by_ends (some-lacks q r) =
+      (fill.kept.size ∙ length-replicate (length types) absent_row) fill.by_path)
+  by_ends (some_lacks q r) =
       let l = fits_lacks t.width types (fits_differ t walks.table_fits_lem) fits q in
-      rw (refused_reading payload t room walks r.place_is (r.walk_is (suc (length payload)) 0 (omega arith))) (one_missing l.lacks_at)
+      rw (refused_reading payload t room walks r.place_is (r.walk_is (suc (length payload)) 0 (omega arith))) (one_missing l.lacks_at_lem)
 
   tree_read : TreeRead t payload m (reading_of payload t room)
   tree_read =

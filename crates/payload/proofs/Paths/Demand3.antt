@@ -44,7 +44,7 @@ use Rattle.payload.proofs.Trees.Refusals.{full_at, reading_size}
 use Rattle.payload.proofs.Paths.ByPath.{read_by_paths}
 use Rattle.payload.proofs.Paths.KnownTree.{Known, known_bytes, known_fits}
 use Rattle.payload.proofs.Paths.Orders.{reordered_length, reordered_known, reordered_paths}
-use Rattle.payload.proofs.Paths.Reaching.{path-to, one_path}
+use Rattle.payload.proofs.Paths.Reaching.{path_to, one_path}
 use Rattle.payload.proofs.Round.Outcomes.{outcome_fits}
 use Rattle.payload.proofs.Round.Demand2.{demand_2}
 use Rattle.payload.proofs.Paths.Written.{none_same, tree_known, nothing_absent, absent_nothing, branch_members, members_branch, shown_written}
@@ -57,7 +57,7 @@ pub row_reached : (u : Table) → length u.rows ≡ 64 → table_fits u ≡ true
 row_reached u all fits j h =
     let r = fits_keeps u all fits in
     let n : length (type_rows u) ≡ u.count = length-take-le u.count u.rows (omega (arith, r.count_most)) in
-    let g = path-to (type_rows u) (fits_differ u fits) (λ i hi. r.next_level i (omega arith)) (suc j) 1 0 j (omega arith) (omega arith) (omega arith)
+    let g = path_to (type_rows u) (fits_differ u fits) (λ i hi. r.next_level i (omega arith)) (suc j) 1 0 j (omega arith) (omega arith) (omega arith)
     r.first_level (λ m a b. (r.each_row m (omega arith)).level_least) in
     record {
       path = g.head ∷ g.path;
@@ -194,8 +194,8 @@ module _ (t u : Table) (rows : List Row) (buf p : List ℕ) (m : Members) (room 
       is = ap (λ (r : Reading). r.verdict) e
 
   by_paths : {r : Reading} → got ≡ r → TreeRead u p2 m r → Arrives t u rows buf p2 m got
-  by_paths e (all_there rows2 none-lacks size by) =
-      answers_accepted rows2 (unknowns types2 1 0 m) e refl size by (λ h. none-lacks h.above (lacking_at h))
+  by_paths e (all_there rows2 none_lacks size by) =
+      answers_accepted rows2 (unknowns types2 1 0 m) e refl size by (λ h. none_lacks h.above (lacking_at h))
   by_paths e (one_missing {above = above} {place = place} h) = answers_missing place e (at_lacking above h)
 
   pub arrives : Arrives t u rows buf p2 m got

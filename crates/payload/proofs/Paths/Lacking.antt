@@ -77,10 +77,10 @@ module _ (types : List TypeRow) (l first tag : ℕ) (c : List ℕ) (inner after 
   lacks_leaf y (z ∷ above) q h = nothing_branch (sym (at_own tag false c inner after y (z ∷ above) q) ∙ present_struct h.present)
 
   module _ (k : ℕ) (e : row_for types l first tag ≡ some k) where
-    lacks-in : (above : List ℕ) → LacksAt types (suc l) (suc (first + k)) inner above
+    lacks_in : (above : List ℕ) → LacksAt types (suc l) (suc (first + k)) inner above
         → LacksAt types l first (mem tag true c inner after) (ident_of tag ∷ above)
     unfolding at_end
-    lacks-in [] h = record {
+    lacks_in [] h = record {
       ident = h.ident;
       row = h.row;
       row_is = path_more types l first (ident_of tag) k h.ident [] e ∙ h.row_is;
@@ -88,7 +88,7 @@ module _ (types : List TypeRow) (l first tag : ℕ) (c : List ℕ) (inner after 
       present = at_struct (at_own tag true c inner after (ident_of tag) [] (eq-eqb (ident_of tag) (ident_of tag) refl));
       absent = at_own tag true c inner after (ident_of tag) (h.ident ∷ []) (eq-eqb (ident_of tag) (ident_of tag) refl) ∙ h.absent;
     }
-    lacks-in (y ∷ above) h = record {
+    lacks_in (y ∷ above) h = record {
       ident = h.ident;
       row = h.row;
       row_is = path_more types l first (ident_of tag) k y (above ++ (h.ident ∷ [])) e ∙ h.row_is;
@@ -98,10 +98,10 @@ module _ (types : List TypeRow) (l first tag : ℕ) (c : List ℕ) (inner after 
       absent = at_own tag true c inner after (ident_of tag) (y ∷ above ++ (h.ident ∷ [])) (eq-eqb (ident_of tag) (ident_of tag) refl) ∙ h.absent;
     }
 
-    lacks-out : (x : ℕ) (above : List ℕ) → eqb (ident_of tag) x ≡ true → LacksAt types l first (mem tag true c inner after) (x ∷ above)
+    lacks_out : (x : ℕ) (above : List ℕ) → eqb (ident_of tag) x ≡ true → LacksAt types l first (mem tag true c inner after) (x ∷ above)
         → LacksAt types (suc l) (suc (first + k)) inner above
     unfolding at_end
-    lacks-out x [] q h = record {
+    lacks_out x [] q h = record {
       ident = h.ident;
       row = h.row;
       row_is = sym (path_more types l first (ident_of tag) k h.ident [] e) ∙ (rw (← eqb-true (ident_of tag) x q) at h.row_is);
@@ -109,7 +109,7 @@ module _ (types : List TypeRow) (l first tag : ℕ) (c : List ℕ) (inner after 
       present = at_start;
       absent = sym (at_own tag true c inner after x (h.ident ∷ []) q) ∙ h.absent;
     }
-    lacks-out x (y ∷ above) q h = record {
+    lacks_out x (y ∷ above) q h = record {
       ident = h.ident;
       row = h.row;
       row_is =
@@ -124,13 +124,13 @@ module _ (types : List TypeRow) (l first tag : ℕ) (c : List ℕ) (inner after 
 -- a path to a level, and what that level lacks
 pub record Lacks (types : List TypeRow) (l first : ℕ) (m : Members) : Type 0 where
   pub above : List ℕ
-  pub lacks_at : LacksAt types l first m above
+  pub lacks_at_lem : LacksAt types l first m above
 
 -- below this level
 record LacksBelow (types : List TypeRow) (l first : ℕ) (m : Members) : Type 0 where
   head : ℕ
   above : List ℕ
-  lacks_at : LacksAt types l first m (head ∷ above)
+  lacks_at_lem : LacksAt types l first m (head ∷ above)
 
 module _ (width : ℕ) (types : List TypeRow) (d : idents_differ types ≡ true) where
   any_lacks : (l first : ℕ) (m : Members) → (lacks_below types l first m ≡ true → LacksBelow types l first m)
@@ -138,20 +138,20 @@ module _ (width : ℕ) (types : List TypeRow) (d : idents_differ types ≡ true)
   any_lacks l first m below e = go (lacks_below types l first m) refl e
     where
       go : (b : Bool) → lacks_below types l first m ≡ b → or b (misses l (drop first types) m) ≡ true → Lacks types l first m
-      go true q e = let h = below q in record { above = h.head ∷ h.above; lacks_at = h.lacks_at }
-      go false q e = record { above = []; lacks_at = end_lacks types d l first m e }
+      go true q e = let h = below q in record { above = h.head ∷ h.above; lacks_at_lem = h.lacks_at_lem }
+      go false q e = record { above = []; lacks_at_lem = end_lacks types d l first m e }
 
   below_path : {l first : ℕ} {m : Members} → Fits width types l first m → lacks_below types l first m ≡ true → LacksBelow types l first m
   unfolding lacks_below
   below_path fits_stop e = true_false (sym e)
   below_path {l} {first} (fits_unknown {tag = tag} {s = s} {c = c} {inner = inner} {after = after} fr hc none_is f) e =
       let h = below_path f (sym (below_unknown types l first tag c inner after s none_is) ∙ e) in
-      let q = other_unknown types l first tag s c inner after h.head h.above none_is after h.lacks_at in
-      record { head = h.head; above = h.above; lacks_at = lacks_before types l first tag s c inner after h.head h.above q h.lacks_at }
+      let q = other_unknown types l first tag s c inner after h.head h.above none_is after h.lacks_at_lem in
+      record { head = h.head; above = h.above; lacks_at_lem = lacks_before types l first tag s c inner after h.head h.above q h.lacks_at_lem }
   below_path {l} {first} (fits_leaf {tag = tag} {k = k} {c = c} {after = after} fr hc known ns fits f) e =
       let h = below_path f (sym (below_leaf types l first tag c stop after k known.found) ∙ e) in
-      let q = other_once types l first tag false c stop after h.head h.above known.once h.lacks_at in
-      record { head = h.head; above = h.above; lacks_at = lacks_before types l first tag false c stop after h.head h.above q h.lacks_at }
+      let q = other_once types l first tag false c stop after h.head h.above known.once h.lacks_at_lem in
+      record { head = h.head; above = h.above; lacks_at_lem = lacks_before types l first tag false c stop after h.head h.above q h.lacks_at_lem }
   below_path {l} {first} (fits_struct {tag = tag} {k = k} {inner = inner} {after = after} fr known is fi f) e =
       go (lacks_any types (suc l) (suc (first + k)) inner) refl (sym (below_struct types l first tag [] inner after k known.found) ∙ e)
       (any_lacks (suc l) (suc (first + k)) inner (below_path fi)) (below_path f)
@@ -165,15 +165,15 @@ module _ (width : ℕ) (types : List TypeRow) (d : idents_differ types ≡ true)
           record {
             head = ident_of tag;
             above = h.above;
-            lacks_at = lacks-in types l first tag [] inner after k known.found h.above h.lacks_at;
+            lacks_at_lem = lacks_in types l first tag [] inner after k known.found h.above h.lacks_at_lem;
           }
       go false q e i a =
           let h = a e in
-          let q = other_once types l first tag true [] inner after h.head h.above known.once h.lacks_at in
+          let q = other_once types l first tag true [] inner after h.head h.above known.once h.lacks_at_lem in
           record {
             head = h.head;
             above = h.above;
-            lacks_at = lacks_before types l first tag true [] inner after h.head h.above q h.lacks_at;
+            lacks_at_lem = lacks_before types l first tag true [] inner after h.head h.above q h.lacks_at_lem;
           }
 
   pub fits_lacks : {l first : ℕ} {m : Members} → Fits width types l first m → lacks_any types l first m ≡ true → Lacks types l first m
@@ -206,7 +206,7 @@ module _ (width : ℕ) (types : List TypeRow) (d : idents_differ types ≡ true)
           → ((above : List ℕ) → LacksAt types (suc l) (suc (first + k)) inner above → lacks_any types (suc l) (suc (first + k)) inner ≡ true)
           → (LacksAt types l first after (y ∷ above) → lacks_below types l first after ≡ true)
           → or (lacks_any types (suc l) (suc (first + k)) inner) (lacks_below types l first after) ≡ true
-      go true q i a = rw (i above (lacks-out types l first tag [] inner after k known.found y above q h))
+      go true q i a = rw (i above (lacks_out types l first tag [] inner after k known.found y above q h))
       go false q i a =
           rw (a (lacks_behind types l first tag true [] inner after y above q h)) (or_true (lacks_any types (suc l) (suc (first + k)) inner))
 

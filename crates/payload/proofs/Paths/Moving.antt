@@ -88,19 +88,19 @@ module _ (buf p p2 : List ℕ) (bits : ℕ) where
 
   -- a part of a content, from its byte i on
   module _ (place place2 : ℕ) (c : List ℕ) (lies : Lies p place c) (lies2 : Lies p2 place2 c) (i n : ℕ) (fits : i + n ≤ length c) where
-    same-part : {v : Value} {r : Row} → r.value ≡ Bytes (place + i) n → SameAs buf p bits v r → SameAs buf p2 bits v (plain (Bytes (place2 + i) n))
-    same-part e same_absent = let z : ◌≡◌ {A = ℕ} 0 1 = cc in absurd (omega arith)
-    same-part e same_unsigned = let z : ◌≡◌ {A = ℕ} 0 1 = cc in absurd (omega arith)
-    same-part e same_signed = let z : ◌≡◌ {A = ℕ} 0 1 = cc in absurd (omega arith)
-    same-part e same_float32 = let z : ◌≡◌ {A = ℕ} 0 1 = cc in absurd (omega arith)
-    same-part e same_float64 = let z : ◌≡◌ {A = ℕ} 0 1 = cc in absurd (omega arith)
-    same-part e (same_run {place = from} {place2 = at} {len = len} same inside) =
+    same_part : {v : Value} {r : Row} → r.value ≡ Bytes (place + i) n → SameAs buf p bits v r → SameAs buf p2 bits v (plain (Bytes (place2 + i) n))
+    same_part e same_absent = let z : ◌≡◌ {A = ℕ} 0 1 = cc in absurd (omega arith)
+    same_part e same_unsigned = let z : ◌≡◌ {A = ℕ} 0 1 = cc in absurd (omega arith)
+    same_part e same_signed = let z : ◌≡◌ {A = ℕ} 0 1 = cc in absurd (omega arith)
+    same_part e same_float32 = let z : ◌≡◌ {A = ℕ} 0 1 = cc in absurd (omega arith)
+    same_part e same_float64 = let z : ◌≡◌ {A = ℕ} 0 1 = cc in absurd (omega arith)
+    same_part e (same_run {place = from} {place2 = at} {len = len} same inside) =
         let ea : at ≡ place + i = cc in
         let en : len ≡ n = cc in
         let q : run_of buf from n ≡ run_of p (place + i) n = rw (ea, en) at same in
         rw en
         (same_run (q ∙ lies_part p place c lies i n fits ∙ sym (lies_part p2 place2 c lies2 i n fits)) (part_inside p2 place2 c lies2 i n fits))
-    same-part e same_members = let z : ◌≡◌ {A = ℕ} 0 1 = cc in absurd (omega arith)
+    same_part e same_members = let z : ◌≡◌ {A = ℕ} 0 1 = cc in absurd (omega arith)
 
   pub shown_moved : (r r2 : TypeRow) (place place2 : ℕ) (c : List ℕ) {v : Value} → r.kind ≡ r2.kind → r.kind ≤ 14
       → eqb r.kind struct ≡ false → content_fits r c ≡ true → Lies p place c → Lies p2 place2 c
@@ -121,9 +121,9 @@ module _ (buf p p2 : List ℕ) (bits : ℕ) where
           (pick b (plain (Bytes (place2 + 3) (length c - 4))) (pick d (plain (Bytes place2 (length c))) members_row)))
       go true b d ea eb ed s = same_plainly (number_plainly r.kind (number_of big c)) s
       go false true d ea eb ed s =
-          same-part place place2 c lies lies2 3 (length c - 4) (omega (arith, long (eqb-true r.kind string eb) fits)) refl s
+          same_part place place2 c lies lies2 3 (length c - 4) (omega (arith, long (eqb-true r.kind string eb) fits)) refl s
       go false false true ea eb ed s =
-          rw (add-zero place2) at (same-part place place2 c lies lies2 0 (length c) (omega arith) (rw (add-zero place)) s)
+          rw (add-zero place2) at (same_part place place2 c lies lies2 0 (length c) (omega arith) (rw (add-zero place)) s)
       go false false false ea eb ed s =
           absurd (omega (
             arith,

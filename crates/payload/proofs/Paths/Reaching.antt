@@ -73,13 +73,13 @@ module _ (types : List TypeRow) where
     one_deeper i l e h (inl n) = absurd (omega arith)
     one_deeper i l e h (inr n) = n.1 ∙ ap suc e
 
-    pub path-to : (turns l first j : ℕ) → j - first < turns → first ≤ j → j < length types → (row_at types first).level ≡ l
+    pub path_to : (turns l first j : ℕ) → j - first < turns → first ≤ j → j < length types → (row_at types first).level ≡ l
         → ((m : ℕ) → first ≤ m → m ≤ j → l ≤ (row_at types m).level) → PathTo l first j
-    path-to zero l first j t a b e h = absurd (omega arith)
-    path-to (suc turns) l first j t a b e h =
+    path_to zero l first j t a b e h = absurd (omega arith)
+    path_to (suc turns) l first j t a b e h =
         let z : first + (j - first) ≡ j = omega arith in
         let i : Last l first j = rw z at (last_own l first (j - first) e (λ m m1 m2. h m m1 (omega arith))) in
-        go i (dec_le j i.at) (λ l2 first2 t2. path-to turns l2 first2 j t2)
+        go i (dec_le j i.at) (λ l2 first2 t2. path_to turns l2 first2 j t2)
       where
         go : (i : Last l first j) → Dec (j ≤ i.at)
             → ((l2 first2 : ℕ) → j - first2 < turns → first2 ≤ j → j < length types → (row_at types first2).level ≡ l2

@@ -122,19 +122,19 @@ module _ (buf p : List ℕ) (r : TypeRow) (v : Row) where
       true_false (sym (ap is_absent e) ∙ absent_shown r place c)
 
   module _ (few : r.kind ≤ 14) where
-    members-carried : {o : Put} → Carried buf p r v o → v.value ≡ Branch → o ≡ branch
-    members-carried (carried_nothing e) z = let z : ◌≡◌ {A = ℕ} 0 1 = cc in absurd (omega arith)
-    members-carried (carried_branch e) z = refl
-    members-carried (carried_leaf {place} {c} ns fits lies s) z =
+    members_carried : {o : Put} → Carried buf p r v o → v.value ≡ Branch → o ≡ branch
+    members_carried (carried_nothing e) z = let z : ◌≡◌ {A = ℕ} 0 1 = cc in absurd (omega arith)
+    members_carried (carried_branch e) z = refl
+    members_carried (carried_leaf {place} {c} ns fits lies s) z =
         let e : shown_of r place c ≡ members_row = struct_same buf p v.bits s z in
         absurd (shown_leaf r place c few ns (ap (λ (x : Row). x.value) e))
 
     -- what another row of its kind shows, of another payload
-    carried-shown : {o : Put} {new : Row} (p2 : List ℕ) (r2 : TypeRow) → r.kind ≡ r2.kind → Carried buf p r v o → Shows p2 r2 absent_row o new
+    carried_shown : {o : Put} {new : Row} (p2 : List ℕ) (r2 : TypeRow) → r.kind ≡ r2.kind → Carried buf p r v o → Shows p2 r2 absent_row o new
         → Same buf p2 v new
-    carried-shown p2 r2 ek (carried_nothing e) shows_nothing = rw e same_absent
-    carried-shown p2 r2 ek (carried_branch e) shows_branch = rw e same_members
-    carried-shown p2 r2 ek (carried_leaf {place} {c} ns fits lies s) (shows_leaf {place = place2} ns2 fits2 lies2) =
+    carried_shown p2 r2 ek (carried_nothing e) shows_nothing = rw e same_absent
+    carried_shown p2 r2 ek (carried_branch e) shows_branch = rw e same_members
+    carried_shown p2 r2 ek (carried_leaf {place} {c} ns fits lies s) (shows_leaf {place = place2} ns2 fits2 lies2) =
         shown_moved buf p p2 v.bits r r2 place place2 c ek few ns fits lies lies2 s
 
 -- ---- the writer's tree
@@ -189,7 +189,7 @@ module _ (t : Table) (rows : List Row) (buf p : List ℕ) (all : length t.rows �
   carried path i e =
       let same : Same buf p (get_or rows i absent_row) (get_or after i absent_row) =
       rw (own_reading, full_at after (64 - length after) i) at ((d.read_back t.count (omega arith)).same i (row_in path i e)) in
-      let shows = rw (absent_at (length types) i) at (own_fills.by-path path i e) in
+      let shows = rw (absent_at (length types) i) at (own_fills.by_path path i e) in
       carries buf p (row_at types i) (get_or rows i absent_row) shows same
 
   -- a path, by whether it leads to a row
@@ -232,7 +232,7 @@ module _ (t : Table) (rows : List Row) (buf p : List ℕ) (all : length t.rows �
       go : Wrote path → at_path tree path ≡ branch
       go (no_row w e) = let v = sym (ap (λ (r : Row). r.value) w) ∙ z in let z : ◌≡◌ {A = ℕ} 0 1 = cc in absurd (omega arith)
       go (a_row i e w) =
-          members-carried buf p (row_at types i) (get_or rows i absent_row) (few_kinds path i e) (carried path i e)
+          members_carried buf p (row_at types i) (get_or rows i absent_row) (few_kinds path i e) (carried path i e)
           (sym (ap (λ (r : Row). r.value) w) ∙ z)
 
   -- A row of another table, of the same kind where the writer's has one, that shows what the path finds shows what was written.
@@ -244,4 +244,4 @@ module _ (t : Table) (rows : List Row) (buf p : List ℕ) (all : length t.rows �
       go : Wrote path → Same buf p2 (written_at t rows path) new
       go (no_row w e) = rw (w, shows_none p2 r2 shows e) same_absent
       go (a_row i e w) =
-          rw w (carried-shown buf p (row_at types i) (get_or rows i absent_row) (few_kinds path i e) p2 r2 (kind i e) (carried path i e) shows)
+          rw w (carried_shown buf p (row_at types i) (get_or rows i absent_row) (few_kinds path i e) p2 r2 (kind i e) (carried path i e) shows)

@@ -127,8 +127,8 @@ module _ (rows : List Row) (room : ℕ) (t : Table) (buf : List ℕ) (space : �
   -- ---- its reading
 
   module _ (room2 : ℕ) (h : t.count ≤ room2) where
-    pub written-reading : reading_of p t room2 ≡ accepted t.count shown 0
-    written-reading =
+    pub written_reading : reading_of p t room2 ≡ accepted t.count shown 0
+    written_reading =
         (accept_law p t room2).tree_read shown 0 (record { table_fits_lem = w.table_fits_lem; room_fits = h; size_fits = w.size_fits }) written_tree
 
     shown_back : ReadBack rows t buf p (accepted t.count shown 0)
@@ -148,13 +148,13 @@ module _ (rows : List Row) (room : ℕ) (t : Table) (buf : List ℕ) (space : �
     }
 
     read_back : ReadBack rows t buf p (reading_of p t room2)
-    read_back = rw written-reading shown_back
+    read_back = rw written_reading shown_back
 
     -- ---- and its writing
 
     again : (space2 : ℕ) → length p ≤ space2 → outcome_of (reading_of p t room2).rows room2 t p space2 ≡ done p
     again space2 hs =
-        rw written-reading
+        rw written_reading
         (fits_outcome (full shown) room2 t p space2 p
         (record {
           table_fits_lem = w.table_fits_lem;

@@ -21,7 +21,7 @@ use Rattle.payload.specs.Row.{is_absent}
 use Rattle.payload.specs.Judging.{outside, row_fine, is_members, up_after, judged_from}
 use Rattle.payload.specs.Writing.{Put, nothing, leaf, branch, put_of}
 use Rattle.payload.proofs.Joined.{clash, and_left, and_right}
-use Rattle.payload.proofs.Rules.RowLaws.{fits-rules}
+use Rattle.payload.proofs.Rules.RowLaws.{fits_rules}
 use Rattle.payload.proofs.Round.PutLaws.{Content, Puts, puts_leaf, puts_branch, puts}
 
 -- ---- a row
@@ -116,6 +116,6 @@ module _ (buf : List ℕ) where
   judged_passed upto most (r ∷ rs) [] h f e = absurd (omega arith)
   judged_passed upto most (r ∷ rs) (v ∷ vs) h f e =
       let d = first_judged upto r rs v vs e in
-      a_row (fits-rules r most (and_left (row_fits most r) (rows_fit (level_most r) rs) f)).0 refl
+      a_row (fits_rules r most (and_left (row_fits most r) (rows_fit (level_most r) rs) f)).0 refl
       (stands_value buf upto r v.bits v.value d.inside d.fine)
       (judged_passed (up_after upto r v) (level_most r) rs vs (le_of_suc-le-suc h) (and_right (row_fits most r) (rows_fit (level_most r) rs) f) d.rest)

@@ -66,8 +66,8 @@ module _ (types : List TypeRow) where
     pub from_inner : From (suc l) (suc (first + k)) 0 rs
     from_inner = record { rest_is = rw (add-zero (suc (first + k))) here.1; above = λ i hi. absurd (omega arith) }
 
-    pub from-inner-rest : drop (suc (first + k)) types ≡ rs
-    from-inner-rest = here.1
+    pub from_inner_rest : drop (suc (first + k)) types ≡ rs
+    from_inner_rest = here.1
 
     -- a row of the level is found by its Data ID
     pub from_found : idents_differ types ≡ true → r.level ≡ l → find l r.ident (drop first types) ≡ some k
@@ -118,7 +118,7 @@ module _ {ws : ℕ} (lw : LengthWire ws) (buf : List ℕ) (h : AreBytes buf) (wi
       (known_as l first k r rs f rules q vs after b)
       (rw z (eq-eqb r.kind struct kind))
       (built_each bi (suc (first + k)) 0 (from_inner types l first k r rs f) n.inside)
-      (rw (from-inner-rest types l first k r rs f) (built_whole lw buf bi inner (λ x i. i)))
+      (rw (from_inner_rest types l first k r rs f) (built_whole lw buf bi inner (λ x i. i)))
       (built_each b first (suc k) (from_next types l first k r rs f (omega arith)) n.later)
 
   -- it knows each member
@@ -200,22 +200,22 @@ module _ (buf p : List ℕ) (width : ℕ) (types : List TypeRow) where
   -- a member that the table knows
   module _ (l first place tag k : ℕ) (after : Members) (pre : List Row) (rs : List TypeRow) (vs xs : List Row)
       (e : row_for types l first tag ≡ some k) (n : length pre ≡ first + k) where
-    filling-leaf : (c : List ℕ) (x : Row) → shown_of (row_at types (first + k)) (content_at width tag place) c ≡ x
+    filling_leaf : (c : List ℕ) (x : Row) → shown_of (row_at types (first + k)) (content_at width tag place) c ≡ x
         → Filling l first (content_at width tag place + length c) after pre rs vs (x ∷ xs)
         → Filling l first place (mem tag false c stop after) pre rs vs (absent_row ∷ xs)
     unfolding filled for_row
-    filling-leaf c x s g = record {
+    filling_leaf c x s g = record {
       shown = g.shown;
       filled_is = rw (e, s, set_at pre absent_row xs x (first + k) n) g.filled_is;
       showing = g.showing;
     }
 
-    filling-struct : (inner : Members) (rs2 : List TypeRow) (vs2 : List Row)
+    filling_struct : (inner : Members) (rs2 : List TypeRow) (vs2 : List Row)
         (fi : Filling (suc l) (suc (first + k)) (content_at width tag place) inner (pre ++ (members_row ∷ [])) rs2 vs2 xs)
         → Filling l first (content_at width tag place + length (bytes_of width inner)) after pre rs vs (members_row ∷ fi.shown)
         → Filling l first place (mem tag true [] inner after) pre rs vs (absent_row ∷ xs)
     unfolding filled for_row
-    filling-struct inner rs2 vs2 fi g =
+    filling_struct inner rs2 vs2 fi g =
         let z : filled width types (suc l) (suc (first + k)) (content_at width tag place) inner (pre ++ (members_row ∷ xs)) ≡ pre ++ (members_row ∷ fi.shown) =
         ap (filled width types (suc l) (suc (first + k)) (content_at width tag place) inner) (sym (append_snoc pre members_row xs)) ∙ fi.filled_is
         ∙ append_snoc pre members_row fi.shown in
@@ -249,7 +249,7 @@ module _ {ws : ℕ} (lw : LengthWire ws) (buf p : List ℕ) (width : ℕ) (types
       let y : List ℕ = bytes_of width after in
       let at : ℕ = content_at width tag place in
       let x : Row = shown_of r at c in
-      filling-leaf buf p width types l first place tag k after pre (r ∷ rs) (v ∷ vs) xs (row_for_lem lw types d l first k r rs f rules q) n c x
+      filling_leaf buf p width types l first place tag k after pre (r ∷ rs) (v ∷ vs) xs (row_for_lem lw types d l first k r rs f rules q) n c x
       (ap (λ (z : TypeRow). shown_of z at c) (from_row types l first k r rs f))
       (filling_row buf p width types l first (at + length c) after pre r rs v vs x xs (omega arith)
       (content_back buf r v.bits t p at (lies_content p width place tag c y h))
@@ -264,7 +264,7 @@ module _ {ws : ℕ} (lw : LengthWire ws) (buf p : List ℕ) (width : ℕ) (types
       let at : ℕ = content_at width tag place in
       let fi = built_filled bi (suc (first + k)) 0 (from_inner types l first k r rs f) at (lies_content p width place tag c y h)
       (pre ++ (members_row ∷ [])) xs (omega (arith, one_more pre members_row first k n)) (absents_showing buf p w g (suc (suc l)) (omega arith)) in
-      filling-struct buf p width types l first place tag k after pre (r ∷ rs) (v ∷ vs) xs (row_for_lem lw types d l first k r rs f rules q) n inner rs vs fi
+      filling_struct buf p width types l first place tag k after pre (r ∷ rs) (v ∷ vs) xs (row_for_lem lw types d l first k r rs f rules q) n inner rs vs fi
       (filling_row buf p width types l first (at + length c) after pre r rs v vs members_row fi.shown (omega arith) (members_same buf p v a)
       (built_filled b first (suc k) (from_next types l first k r rs f (omega arith)) (at + length c) (lies_behind p width place tag c y h)
       (pre ++ (members_row ∷ [])) fi.shown (one_more pre members_row first k n) fi.showing))

@@ -54,44 +54,44 @@ run_wire_lem width false = go (eqb width 1) (eqb width 2)
 module _ {ws : ℕ} (lw : LengthWire ws) (r : TypeRow) (rules : RowRules r) where
   -- numbers
   module _ (few : r.kind < 12) where
-    number-tag : tag_for ws r ≡ tag_of 0 (kind_at r.kind).wire r.ident
+    number_tag : tag_for ws r ≡ tag_of 0 (kind_at r.kind).wire r.ident
     unfolding tag_for
-    number-tag = rw (lt-ltb r.kind string few)
+    number_tag = rw (lt-ltb r.kind string few)
 
-    wire-low : (kind_at r.kind).wire < 4
-    wire-low = number_wire r.kind (omega (arith, rules.kind_least)) few
+    wire_low : (kind_at r.kind).wire < 4
+    wire_low = number_wire r.kind (omega (arith, rules.kind_least)) few
 
-    pub number-wire-is : wire_of (tag_for ws r) ≡ (kind_at r.kind).wire
-    number-wire-is = rw number-tag (omega (arith, wire-low, rules.ident_most))
+    pub number_wire_is : wire_of (tag_for ws r) ≡ (kind_at r.kind).wire
+    number_wire_is = rw number_tag (omega (arith, wire_low, rules.ident_most))
 
-    pub number-length : (width n : ℕ) → n ≡ size_of r.kind → length_fits width (wire_of (tag_for ws r)) n ≡ true
+    pub number_length : (width n : ℕ) → n ≡ size_of r.kind → length_fits width (wire_of (tag_for ws r)) n ≡ true
     unfolding length_fits
-    number-length width n e =
-        rw (number-wire-is, lt-ltb (kind_at r.kind).wire 4 wire-low)
+    number_length width n e =
+        rw (number_wire_is, lt-ltb (kind_at r.kind).wire 4 wire_low)
         (eq-eqb n (fixed_size (kind_at r.kind).wire) (e ∙ number_size r.kind (omega (arith, rules.kind_least)) few))
 
   -- strings, arrays, structs
   module _ (many : 12 ≤ r.kind) where
-    run-tag : tag_for ws r ≡ tag_of 0 ws r.ident
+    run_tag : tag_for ws r ≡ tag_of 0 ws r.ident
     unfolding tag_for
-    run-tag = rw (le-ltb r.kind string many)
+    run_tag = rw (le-ltb r.kind string many)
 
-    pub run-wire-is : wire_of (tag_for ws r) ≡ ws
-    run-wire-is = rw run-tag (omega (arith, lw.most, rules.ident_most))
+    pub run_wire_is : wire_of (tag_for ws r) ≡ ws
+    run_wire_is = rw run_tag (omega (arith, lw.most, rules.ident_most))
 
     -- what the length field can say
     pub run_length : (width n : ℕ) → too_wide width (tag_for ws r) n ≡ false → length_fits width (wire_of (tag_for ws r)) n ≡ true
     unfolding length_fits
     run_length width n e =
-        rw (run-wire-is, le-ltb ws 4 lw.least)
-        (lt-ltb n (256 ^ field_width width ws) (leb-false (256 ^ field_width width ws) n (rw (run-wire-is, le-leb 4 ws lw.least) at e)))
+        rw (run_wire_is, le-ltb ws 4 lw.least)
+        (lt-ltb n (256 ^ field_width width ws) (leb-false (256 ^ field_width width ws) n (rw (run_wire_is, le-leb 4 ws lw.least) at e)))
 
   tag_is : (w : ℕ) × (w < 8) × (tag_for ws r ≡ tag_of 0 w r.ident)
   tag_is = go (ltb r.kind 12) refl
     where
       go : (b : Bool) → ltb r.kind 12 ≡ b → (w : ℕ) × (w < 8) × (tag_for ws r ≡ tag_of 0 w r.ident)
-      go true e = let few = ltb-true r.kind 12 e in ((kind_at r.kind).wire, omega (arith, wire-low few), number-tag few)
-      go false e = (ws, lw.most, run-tag (ltb-false r.kind 12 e))
+      go true e = let few = ltb-true r.kind 12 e in ((kind_at r.kind).wire, omega (arith, wire_low few), number_tag few)
+      go false e = (ws, lw.most, run_tag (ltb-false r.kind 12 e))
 
   pub tag_small : tag_for ws r < 65536
   tag_small = rw tag_is.2 (omega (arith, tag_is.1, rules.ident_most))
@@ -105,10 +105,10 @@ module _ {ws : ℕ} (lw : LengthWire ws) (r : TypeRow) (rules : RowRules r) wher
       go : (b : Bool) → ltb r.kind 12 ≡ b → wire_fits r.kind (wire_of (tag_for ws r)) ≡ true
       go true e =
           let few = ltb-true r.kind 12 e in
-          rw (number-wire-is few, lt-ltb (kind_at r.kind).wire 4 (wire-low few)) (eq-eqb (kind_at r.kind).wire (kind_at r.kind).wire refl)
+          rw (number_wire_is few, lt-ltb (kind_at r.kind).wire 4 (wire_low few)) (eq-eqb (kind_at r.kind).wire (kind_at r.kind).wire refl)
       go false e =
           let many = ltb-false r.kind 12 e in
-          rw (run-wire-is many, lengthed_wire r.kind many (omega (arith, rules.kind_most))) (le-leb 4 ws lw.least)
+          rw (run_wire_is many, lengthed_wire r.kind many (omega (arith, rules.kind_most))) (le-leb 4 ws lw.least)
 
 -- ---- a value's content
 
@@ -247,7 +247,7 @@ module _ (buf : List ℕ) (r : TypeRow) (bits : ℕ) where
   pub content_length : {ws : ℕ} → LengthWire ws → RowRules r → (width : ℕ) {x : Value} {c : List ℕ} → Content buf r bits x c
       → too_wide width (tag_for ws r) (length c) ≡ false → length_fits width (wire_of (tag_for ws r)) (length c) ≡ true
   content_length lw rules width (number {n = n} k few same) e =
-      number-length lw r rules k width _ (length_number_bytes (size_of r.kind) n)
+      number_length lw r rules k width _ (length_number_bytes (size_of r.kind) n)
   content_length lw rules width (text k i t) e = run_length lw r rules (omega arith) width _ e
   content_length lw rules width (cells k i m) e = run_length lw r rules (omega arith) width _ e
 

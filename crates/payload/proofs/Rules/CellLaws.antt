@@ -108,27 +108,27 @@ module _ (cells : List ℕ) (n i : ℕ) where
   -- ---- a search
 
   module _ (l x : ℕ) where
-    pub find-end : n ≤ i → found_at i (find l x (drop i (table_in n cells))) ≡ Nothing
+    pub find_end : n ≤ i → found_at i (find l x (drop i (table_in n cells))) ≡ Nothing
     unfolding find
-    find-end h = rw (rows_end h)
+    find_end h = rw (rows_end h)
 
     module _ (h : i < n) (small : l < 16) where
-      pub find-this : get_or cells i 0 / 512 ≡ x * 16 + l → found_at i (find l x (drop i (table_in n cells))) ≡ At i
+      pub find_this : get_or cells i 0 / 512 ≡ x * 16 + l → found_at i (find l x (drop i (table_in n cells))) ≡ At i
       unfolding find
-      find-this e =
+      find_this e =
           let a : level_in (get_or cells i 0) ≡ l = omega arith in
           let b : ident_in (get_or cells i 0) ≡ x = omega arith in
           let z : i + 0 ≡ i = omega arith in
           rw (rows_here h, le-ltb (level_in (get_or cells i 0)) l (omega arith), eq-eqb (level_in (get_or cells i 0)) l a, eq-eqb (ident_in (get_or cells i 0)) x b, z)
 
-      pub find-above : level_in (get_or cells i 0) < l → found_at i (find l x (drop i (table_in n cells))) ≡ Nothing
+      pub find_above : level_in (get_or cells i 0) < l → found_at i (find l x (drop i (table_in n cells))) ≡ Nothing
       unfolding find
-      find-above e = rw (rows_here h, lt-ltb (level_in (get_or cells i 0)) l e)
+      find_above e = rw (rows_here h, lt-ltb (level_in (get_or cells i 0)) l e)
 
-      pub find-next : (get_or cells i 0 / 512 ≡ x * 16 + l → ⊥) → l ≤ level_in (get_or cells i 0)
+      pub find_next : (get_or cells i 0 / 512 ≡ x * 16 + l → ⊥) → l ≤ level_in (get_or cells i 0)
           → found_at i (find l x (drop i (table_in n cells))) ≡ found_at (suc i) (find l x (drop (suc i) (table_in n cells)))
       unfolding find
-      find-next ne e =
+      find_next ne e =
           rw (rows_here h, le-ltb (level_in (get_or cells i 0)) l e)
           (go (eqb (level_in (get_or cells i 0)) l) (eqb (ident_in (get_or cells i 0)) x) refl refl)
         where
@@ -142,16 +142,16 @@ module _ (cells : List ℕ) (n i : ℕ) where
 
   module _ (h : i < n) (l x : ℕ) (el : l ≡ level_in (get_or cells i 0)) (ex : x ≡ ident_in (get_or cells i 0))
       (f : Found) (ef : f ≡ found_at (suc i) (find l x (drop (suc i) (table_in n cells)))) where
-    behind-none : missed f ≡ is_none (find (level_in (get_or cells i 0)) (ident_in (get_or cells i 0)) (drop (suc i) (table_in n cells)))
-    behind-none = rw (ef, ← el, ← ex) (missed_none (suc i) (find l x (drop (suc i) (table_in n cells))))
+    behind_none : missed f ≡ is_none (find (level_in (get_or cells i 0)) (ident_in (get_or cells i 0)) (drop (suc i) (table_in n cells)))
+    behind_none = rw (ef, ← el, ← ex) (missed_none (suc i) (find l x (drop (suc i) (table_in n cells))))
 
-    pub differ-stop : missed f ≡ false → idents_differ (drop i (table_in n cells)) ≡ false
+    pub differ_stop : missed f ≡ false → idents_differ (drop i (table_in n cells)) ≡ false
     unfolding idents_differ
-    differ-stop e = rw (rows_here h, sym behind-none ∙ e)
+    differ_stop e = rw (rows_here h, sym behind_none ∙ e)
 
-    pub differ-next : missed f ≡ true → idents_differ (drop i (table_in n cells)) ≡ idents_differ (drop (suc i) (table_in n cells))
+    pub differ_next : missed f ≡ true → idents_differ (drop i (table_in n cells)) ≡ idents_differ (drop (suc i) (table_in n cells))
     unfolding idents_differ
-    differ-next e = rw (rows_here h, sym behind-none ∙ e)
+    differ_next e = rw (rows_here h, sym behind_none ∙ e)
 
   pub differ_end : n ≤ i → idents_differ (drop i (table_in n cells)) ≡ true
   unfolding idents_differ
@@ -174,21 +174,21 @@ module _ (cells : List ℕ) (n l x key at : ℕ) (small : l < 16) (e : key ≡ x
   pub key_first : (get_or cells at 0 / 512 ≡ key → ⊥) → search_at n cells l x at ≡ search_at n cells l x (at + 1)
   key_first ne =
       let z : suc at ≡ at + 1 = omega arith in
-      find-next cells n at l x (omega arith) small (λ d. ne (d ∙ sym e)) (deep at (omega arith) (omega arith)) ∙ ap (search_at n cells l x) z
+      find_next cells n at l x (omega arith) small (λ d. ne (d ∙ sym e)) (deep at (omega arith) (omega arith)) ∙ ap (search_at n cells l x) z
 
   pub key_next : (k : ℕ) → k < 4 → (get_or cells (at + k) 0 / 512 ≡ key → ⊥) → search_at n cells l x (at + k) ≡ search_at n cells l x (at + suc k)
   key_next k few ne =
       let z : suc (at + k) ≡ at + suc k = omega arith in
-      find-next cells n (at + k) l x (omega arith) small (λ d. ne (d ∙ sym e)) (deep (at + k) (omega arith) (omega arith)) ∙ ap (search_at n cells l x) z
+      find_next cells n (at + k) l x (omega arith) small (λ d. ne (d ∙ sym e)) (deep (at + k) (omega arith) (omega arith)) ∙ ap (search_at n cells l x) z
 
 -- the rows of a level are enough
 module _ (cells : List ℕ) (stop count l x : ℕ) (small : l < 16) (to : stop ≤ count) (shut : stop < count → level_in (get_or cells stop 0) < l) where
   at_stop : search_at stop cells l x stop ≡ search_at count cells l x stop
-  at_stop = find-end cells stop stop l x (omega arith) ∙ sym (go (ltb stop count) refl)
+  at_stop = find_end cells stop stop l x (omega arith) ∙ sym (go (ltb stop count) refl)
     where
       go : (b : Bool) → ltb stop count ≡ b → search_at count cells l x stop ≡ Nothing
-      go true e = find-above cells count stop l x (ltb-true stop count e) small (shut (ltb-true stop count e))
-      go false e = find-end cells count stop l x (ltb-false stop count e)
+      go true e = find_above cells count stop l x (ltb-true stop count e) small (shut (ltb-true stop count e))
+      go false e = find_end cells count stop l x (ltb-false stop count e)
 
   rows_enough : (k first : ℕ) → first + k ≡ stop → ((i : ℕ) → first ≤ i → i < stop → l ≤ level_in (get_or cells i 0))
       → search_at stop cells l x first ≡ search_at count cells l x first
@@ -200,13 +200,13 @@ module _ (cells : List ℕ) (stop count l x : ℕ) (small : l < 16) (to : stop �
           → search_at stop cells l x first ≡ search_at count cells l x first
       go true d later =
           let hit = eqb-true (get_or cells first 0 / 512) (x * 16 + l) d in
-          find-this cells stop first l x (omega arith) small hit ∙ sym (find-this cells count first l x (omega arith) small hit)
+          find_this cells stop first l x (omega arith) small hit ∙ sym (find_this cells count first l x (omega arith) small hit)
       go false d later =
           let ne = eqb-false (get_or cells first 0 / 512) (x * 16 + l) d in
           let lev = deep first (omega arith) (omega arith) in
-          find-next cells stop first l x (omega arith) small ne lev
+          find_next cells stop first l x (omega arith) small ne lev
           ∙ later
-          ∙ sym (find-next cells count first l x (omega arith) small ne lev)
+          ∙ sym (find_next cells count first l x (omega arith) small ne lev)
 
 module _ (cells : List ℕ) (first stop count l x : ℕ) (small : l < 16) (s : Stops cells first stop count l) where
   pub level_search : (f : Found) → f ≡ search_at stop cells l x first → f ≡ search_at count cells l x first

@@ -17,7 +17,7 @@ use Rattle.payload.specs.Table.{in_range, row_fits, level_most, rows_fit, idents
 use Rattle.payload.specs.Cells.{cell_of, row_in, rows_in, table_in, FineTable, Checked}
 use Rattle.payload.proofs.Joined.{clash, and_left, and_right, refuted}
 use Rattle.payload.proofs.Rules.CellLaws.{cell_row}
-use Rattle.payload.proofs.Rules.RowLaws.{range_in, in_range_lem, fits-rules, fine_row, most_in, width_small}
+use Rattle.payload.proofs.Rules.RowLaws.{range_in, in_range_lem, fits_rules, fine_row, most_in, width_small}
 use Rattle.payload.proofs.Rules.Rising.{marked, ascends, marked_long, ascends_differ}
 
 -- ---- the tests of a table
@@ -79,13 +79,13 @@ module _ (t : Table) (all : length t.rows ≡ 64) (starts : List ℕ) (i most : 
     unfolding rows_fit
     stop e = p.fits_from ∙ rw (here, e)
 
-    pub passed-stop : row_fits most (row_at t.rows i) ≡ false → Checked t cells false
-    passed-stop e = refuse t cells p.long (λ k. clash (sym (stop e) ∙ k.rows))
+    pub passed_stop : row_fits most (row_at t.rows i) ≡ false → Checked t cells false
+    passed_stop e = refuse t cells p.long (λ k. clash (sym (stop e) ∙ k.rows))
 
     module _ (e : row_fits most (row_at t.rows i) ≡ true) (m : ℕ) (em : m ≡ level_most (row_at t.rows i)) (c : ℕ) (ec : c ≡ cell_of (row_at t.rows i))
         (l x : ℕ) (el : l ≡ (row_at t.rows i).level) (ex : x ≡ (row_at t.rows i).ident) (up : Bool) (eu : up ≡ and rising (leb (get_or lasts l 0) x)) where
       rules : RowRules (row_at t.rows i)
-      rules = (fits-rules (row_at t.rows i) most e).0
+      rules = (fits_rules (row_at t.rows i) most e).0
 
       each_next : (j : ℕ) → j < suc i → (b : Bool) → eqb j i ≡ b → (row_in (get_or (set cells i c) j 0) ≡ row_at t.rows j) × RowRules (row_at t.rows j)
       each_next j k true d =
@@ -106,8 +106,8 @@ module _ (t : Table) (all : length t.rows ≡ 64) (starts : List ℕ) (i most : 
           and_assoc true b d = refl
           and_assoc false b d = refl
 
-      pub passed-next : Passed t starts (i + 1) m up (set cells i c) (marked lasts l x)
-      passed-next =
+      pub passed_next : Passed t starts (i + 1) m up (set cells i c) (marked lasts l x)
+      passed_next =
           rw (add-one i)
           (record {
             inside = h;
@@ -122,22 +122,22 @@ module _ (t : Table) (all : length t.rows ≡ 64) (starts : List ℕ) (i most : 
   -- ---- behind the last row
 
   module _ (h : t.count ≤ i) where
-    at-end : i ≡ t.count
-    at-end = omega (arith, p.inside)
+    at_end_lem : i ≡ t.count
+    at_end_lem = omega (arith, p.inside)
 
-    end-rows : slice i t.count t.rows ≡ []
-    end-rows = rw at-end (slice_empty t.count t.rows)
+    end_rows : slice i t.count t.rows ≡ []
+    end_rows = rw at_end_lem (slice_empty t.count t.rows)
 
     pub all_fit : rows_fit 1 (type_rows t) ≡ true
     unfolding rows_fit
-    all_fit = p.fits_from ∙ rw end-rows
+    all_fit = p.fits_from ∙ rw end_rows
 
-    all-risen : rising ≡ true → ascends starts (type_rows t) ≡ true
+    all_risen : rising ≡ true → ascends starts (type_rows t) ≡ true
     unfolding ascends
-    all-risen r = p.rises_from ∙ rw (r, end-rows)
+    all_risen r = p.rises_from ∙ rw (r, end_rows)
 
-    pub all-fine : FineTable t.count cells
-    all-fine = record {
+    pub all_fine : FineTable t.count cells
+    all_fine = record {
       few = few;
       each = λ j k. let d = p.each j (omega arith) in rw d.0 (fine_row (row_at t.rows j) d.1);
     }
@@ -158,13 +158,13 @@ module _ (t : Table) (all : length t.rows ≡ 64) (starts : List ℕ) (i most : 
 
     module _ (some : 1 ≤ t.count) (width : width_fits t.width ≡ true) where
       -- the answer is whether the Data IDs differ
-      pub answer-differ : (b : Bool) → b ≡ idents_differ (table_in t.count cells) → Checked t cells b
-      answer-differ b e = record {
+      pub answer_differ : (b : Bool) → b ≡ idents_differ (table_in t.count cells) → Checked t cells b
+      answer_differ b e = record {
         answer = e ∙ ap idents_differ all_rows ∙ fits_differ t some few width all_fit;
         long = p.long;
-        filled = λ k. record { rows_are = all_rows; fine = all-fine; width_in = width_small t.width width; count_some = omega arith };
+        filled = λ k. record { rows_are = all_rows; fine = all_fine; width_in = width_small t.width width; count_some = omega arith };
       }
 
       -- Data IDs that rose differ
-      pub answer-rising : length starts ≡ 6 → rising ≡ true → Checked t cells true
-      answer-rising w r = answer-differ true (sym (ap idents_differ all_rows ∙ ascends_differ 1 starts (type_rows t) all_fit w (all-risen r)))
+      pub answer_rising : length starts ≡ 6 → rising ≡ true → Checked t cells true
+      answer_rising w r = answer_differ true (sym (ap idents_differ all_rows ∙ ascends_differ 1 starts (type_rows t) all_fit w (all_risen r)))

@@ -15,7 +15,7 @@ use Rattle.wire.specs.Choose.{pick, and}
 use Rattle.payload.specs.declared.table.TypeRow.{TypeRow}
 use Rattle.payload.specs.Table.{row_fits, level_most, rows_fit, later, find, idents_differ, RowRules}
 use Rattle.payload.proofs.Joined.{and_left, and_right}
-use Rattle.payload.proofs.Rules.RowLaws.{fits-rules}
+use Rattle.payload.proofs.Rules.RowLaws.{fits_rules}
 
 -- a row's Data ID is the last of its level, and the level below starts anew
 abbrev pub marked : List ℕ → ℕ → ℕ → List ℕ
@@ -48,7 +48,7 @@ below_none most lasts (r ∷ rs) f e a l x h =
     (ltb r.level l) refl
   where
     rules : RowRules r × (r.level ≤ most)
-    rules = fits-rules r most (and_left (row_fits most r) (rows_fit (level_most r) rs) f)
+    rules = fits_rules r most (and_left (row_fits most r) (rows_fit (level_most r) rs) f)
 
     up : get_or lasts r.level 0 ≤ r.ident
     up = leb-true (get_or lasts r.level 0) r.ident (and_left (leb (get_or lasts r.level 0) r.ident) (ascends (marked lasts r.level r.ident) rs) a)
@@ -76,7 +76,7 @@ pub ascends_differ : (most : ℕ) (lasts : List ℕ) (rs : List TypeRow) → row
 unfolding rows_fit ascends idents_differ
 ascends_differ most lasts [] f e a = refl
 ascends_differ most lasts (r ∷ rs) f e a =
-    let rules = fits-rules r most (and_left (row_fits most r) (rows_fit (level_most r) rs) f) in
+    let rules = fits_rules r most (and_left (row_fits most r) (rows_fit (level_most r) rs) f) in
     let f2 = and_right (row_fits most r) (rows_fit (level_most r) rs) f in
     let a2 = and_right (leb (get_or lasts r.level 0) r.ident) (ascends (marked lasts r.level r.ident) rs) a in
     let e2 = marked_long lasts r.level r.ident ∙ e in

@@ -47,9 +47,9 @@ module _ (r : TypeRow) where
 
   module _ (most : ℕ) where
     -- a row that fits keeps its rules, and its level is at most `most`
-    pub fits-rules : row_fits most r ≡ true → RowRules r × (r.level ≤ most)
+    pub fits_rules : row_fits most r ≡ true → RowRules r × (r.level ≤ most)
     unfolding row_fits
-    fits-rules e =
+    fits_rules e =
         let e1 = and_right (in_range 1 4 r.level) _ e in
         let e2 = and_right (leb r.level most) _ e1 in
         let e3 = and_right (leb r.ident 4095) _ e2 in
@@ -71,19 +71,19 @@ module _ (r : TypeRow) where
         )
 
     -- a row whose level, Data ID and kind are in range fits if its element kind does, and a struct's level
-    pub row-elem : 1 ≤ r.level → r.level ≤ 4 → r.level ≤ most → r.ident ≤ 4095 → 1 ≤ r.kind → r.kind ≤ 14
+    pub row_elem : 1 ≤ r.level → r.level ≤ 4 → r.level ≤ most → r.ident ≤ 4095 → 1 ≤ r.kind → r.kind ≤ 14
         → and (elem_fits r) (struct_fits r) ≡ row_fits most r
     unfolding row_fits
-    row-elem a b c d e f = rw (in_range_lem 1 4 r.level a b, le-leb r.level most c, le-leb r.ident 4095 d, in_range_lem 1 14 r.kind e f)
+    row_elem a b c d e f = rw (in_range_lem 1 4 r.level a b, le-leb r.level most c, le-leb r.ident 4095 d, in_range_lem 1 14 r.kind e f)
 
-    pub rules-fit : RowRules r → r.level ≤ most → row_fits most r ≡ true
-    rules-fit k h =
-        sym (row-elem k.level_least k.level_most_lem h k.ident_most k.kind_least k.kind_most)
+    pub rules_fit : RowRules r → r.level ≤ most → row_fits most r ≡ true
+    rules_fit k h =
+        sym (row_elem k.level_least k.level_most_lem h k.ident_most k.kind_least k.kind_most)
         ∙ and_both (elem_fits r) (struct_fits r) (elem_keeps k) (struct_keeps k)
 
     -- a row that breaks a rule does not fit
-    pub row-breaks : (RowRules r → r.level ≤ most → ⊥) → false ≡ row_fits most r
-    row-breaks h = sym (refuted (row_fits most r) (λ e. let d = fits-rules e in h d.0 d.1))
+    pub row_breaks : (RowRules r → r.level ≤ most → ⊥) → false ≡ row_fits most r
+    row_breaks h = sym (refuted (row_fits most r) (λ e. let d = fits_rules e in h d.0 d.1))
 
   -- ---- the element kind, test by test
 
@@ -103,8 +103,8 @@ module _ (r : TypeRow) where
   elem_has k h = sym (ap (λ (b : Bool). and b (leb r.elem 11)) (le-leb 1 r.elem (omega arith))) ∙ elem_array k
 
   module _ (other : r.kind ≡ array → ⊥) where
-    pub elem-wrong : (r.elem ≡ 0 → ⊥) → false ≡ and (elem_fits r) (struct_fits r)
-    elem-wrong h = rw (ne_eqb r.kind array other, ne_eqb r.elem 0 h)
+    pub elem_wrong : (r.elem ≡ 0 → ⊥) → false ≡ and (elem_fits r) (struct_fits r)
+    elem_wrong h = rw (ne_eqb r.kind array other, ne_eqb r.elem 0 h)
 
     -- a struct stands at level 1 to 3 where the level behind it is at most 4
     pub elem_next : r.level ≤ 4 → r.elem ≡ 0 → (m : ℕ) → m ≡ level_most r → leb m 4 ≡ and (elem_fits r) (struct_fits r)

@@ -19,7 +19,7 @@ use Rattle.payload.specs.declared.table.TypeRow.{TypeRow}
 use Rattle.payload.specs.declared.table.Table.{Table}
 use Rattle.payload.specs.Table.{row_fits, level_most, rows_fit, later, find, is_none, idents_differ, type_rows, width_fits, table_fits, no_row, row_at, RowRules, NextLevel, Beside, TableRules, RowOf}
 use Rattle.payload.proofs.Joined.{clash, and_left, and_right, and_both}
-use Rattle.payload.proofs.Rules.RowLaws.{fits-rules, rules-fit}
+use Rattle.payload.proofs.Rules.RowLaws.{fits_rules, rules_fit}
 use Rattle.payload.proofs.Rules.CheckLaws.{fits_tests, fits_differ}
 
 -- ---- a search from the first row on
@@ -192,8 +192,8 @@ module _ (types : List TypeRow) (l first x : ℕ) where
   row_none h = none_here l x (drop first types) (λ k f. h (first + k) (out k f))
 
   module _ (u : idents_differ types ≡ true) where
-    not-less : (i j : ℕ) → RowOf types l first x i → RowOf types l first x j → i < j → ⊥
-    not-less i j f g h =
+    not_less : (i j : ℕ) → RowOf types l first x i → RowOf types l first x j → i < j → ⊥
+    not_less i j f g h =
         differ_beside types u i j
         (record {
           order = h;
@@ -209,8 +209,8 @@ module _ (types : List TypeRow) (l first x : ℕ) where
       where
         go : (a b : Bool) → leb i j ≡ a → leb j i ≡ b → i ≡ j
         go true true ea eb = omega (arith, leb-true i j ea, leb-true j i eb)
-        go true false ea eb = absurd (not-less i j f g (leb-false j i eb))
-        go false b ea eb = absurd (not-less j i g f (leb-false i j ea))
+        go true false ea eb = absurd (not_less i j f g (leb-false j i eb))
+        go false b ea eb = absurd (not_less j i g f (leb-false i j ea))
 
     -- The row of the Data ID is found.
     pub row_found : (k : ℕ) → RowOf types l first x (first + k) → find l x (drop first types) ≡ some k
@@ -231,7 +231,7 @@ fit_keep : (most : ℕ) (rs : List TypeRow) → rows_fit most rs ≡ true → Ke
 unfolding rows_fit
 fit_keep most [] e = record { each = λ i h. absurd (omega arith); first = λ h. absurd (omega arith); next = λ i h. absurd (omega arith) }
 fit_keep most (r ∷ rs) e =
-    let k = fits-rules r most (and_left (row_fits most r) (rows_fit (level_most r) rs) e) in
+    let k = fits_rules r most (and_left (row_fits most r) (rows_fit (level_most r) rs) e) in
     let ih = fit_keep (level_most r) rs (and_right (row_fits most r) (rows_fit (level_most r) rs) e) in
     record { each = each k.0 ih; first = λ h. k.1; next = next ih }
   where
@@ -247,7 +247,7 @@ keep_fit : (most : ℕ) (rs : List TypeRow) → Keep most rs → rows_fit most r
 unfolding rows_fit
 keep_fit most [] k = refl
 keep_fit most (r ∷ rs) k =
-    and_both (row_fits most r) (rows_fit (level_most r) rs) (rules-fit r most (k.each 0 (suc-le-suc zero-le)) (k.first (suc-le-suc zero-le)))
+    and_both (row_fits most r) (rows_fit (level_most r) rs) (rules_fit r most (k.each 0 (suc-le-suc zero-le)) (k.first (suc-le-suc zero-le)))
     (keep_fit (level_most r) rs (record {
       each = λ i h. k.each (suc i) (suc-le-suc h);
       first = λ h. k.next 0 (suc-le-suc h);

@@ -22,7 +22,7 @@ use Rattle.payload.specs.Table.{row_at}
 use Rattle.payload.specs.Row.{plain, absent_row, members_row, number_row, shown_of}
 use Rattle.payload.specs.Reading.{Step, content_fits, step_of, Walked, refused, walked, lacks, end_of, walk, walked_of}
 use Rattle.payload.specs.Bounds.{ByWalk, RunIn, Changed, kept, shown, Bounded, refused_in, walked_in}
-use Rattle.payload.proofs.Trees.Walk.{walk_refuse, walk_finish, walk_skip, walk_leaf, walk-in, walk-out, pick_all}
+use Rattle.payload.proofs.Trees.Walk.{walk_refuse, walk_finish, walk_skip, walk_leaf, walk_in_lem, walk_out, pick_all}
 use Rattle.payload.proofs.Trees.Level.{and_left}
 use Rattle.payload.proofs.Trees.Seen.{absent_at}
 use Rattle.payload.proofs.Trees.Frame.{MemberIs, StepIs, is_refuse, is_finish, is_skip, is_leaf, is_enter, step_is}
@@ -165,12 +165,12 @@ walk_bounds (suc turns) width types l first place bytes rows n =
             → Fits rows (walk turns width types (suc l) (suc (first + k)) p c (set rows (first + k) members_row) n)
             → Fits rows (walk (suc turns) width types l first place bytes rows n)
         inner i (refused v q) z b =
-            rw (walk-out turns width types l first place bytes rows n (first + k) p c next y es v q z) (rw z at b)
+            rw (walk_out turns width types l first place bytes rows n (first + k) p c next y es v q z) (rw z at b)
         inner i (walked rows1 n1) z b = after (rw z at b)
           where
             after : Fits rows (walked rows1 n1) → Fits rows (walk (suc turns) width types l first place bytes rows n)
             after (walked_in e h) =
-                rw (walk-in turns width types l first place bytes rows n (first + k) p c next y es rows1 n1 z)
+                rw (walk_in_lem turns width types l first place bytes rows n (first + k) p c next y es rows1 n1 z)
                 (bounded_then e h
                 (bounded_wide next (next + length y) place (place + length bytes) (omega arith) (omega arith) (ih l first next y rows1 n1)))
 

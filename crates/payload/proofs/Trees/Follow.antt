@@ -22,7 +22,7 @@ use Rattle.payload.specs.Reading.{content, Step, finish, skip, leaf, enter, unkn
 use Rattle.payload.specs.Tree.{Members, stop, mem, member_bytes, bytes_of}
 use Rattle.payload.specs.Formed.{row_for, content_at, Framed}
 use Rattle.wire.specs.Number.{AreBytes}
-use Rattle.payload.proofs.Trees.Walk.{walk_refuse, walk_finish, walk_skip, walk_leaf, walk-in, walk-out}
+use Rattle.payload.proofs.Trees.Walk.{walk_refuse, walk_finish, walk_skip, walk_leaf, walk_in_lem, walk_out}
 use Rattle.payload.proofs.Trees.Frame.{length_member, step_member, StepIs, is_refuse, is_finish, is_skip, is_leaf, is_enter, step_is, Written, member_written}
 
 -- the members from a place on, the rows before and after them, and how many of them no row has
@@ -67,15 +67,15 @@ module _ (types : List TypeRow) (first wire place p : ℕ) (c : List ℕ) (next 
   met_none = refl
 
   module _ (k : ℕ) (w : wire_fits (row_at types (first + k)).kind wire ≡ true) (ab : is_absent (get_or rows (first + k) absent_row) ≡ true) where
-    pub met-leaf : eqb (row_at types (first + k)).kind struct ≡ false → content_fits (row_at types (first + k)) c ≡ true
+    pub met_leaf : eqb (row_at types (first + k)).kind struct ≡ false → content_fits (row_at types (first + k)) c ≡ true
         → met types first wire place (content p c next y) rows (some k) ≡ leaf (first + k) (shown_of (row_at types (first + k)) p c) next y
     unfolding met known
-    met-leaf s f = rw (w, ab, s, f)
+    met_leaf s f = rw (w, ab, s, f)
 
-    pub met-struct : eqb (row_at types (first + k)).kind struct ≡ true
+    pub met_struct : eqb (row_at types (first + k)).kind struct ≡ true
         → met types first wire place (content p c next y) rows (some k) ≡ enter (first + k) p c next y
     unfolding met known
-    met-struct s = rw (w, ab, s)
+    met_struct s = rw (w, ab, s)
 
 pub shorter : (width tag : ℕ) (c y : List ℕ) (turns : ℕ) → length (member_bytes width tag c ++ y) < suc turns
     → (length c < turns) × (length y < turns)
@@ -103,14 +103,14 @@ follow_walk {width} {types} {l} {first} {place}
     (to_leaf {tag = tag} {k = k} {c = c} {after = after} {rows = rows} fr hc e w ab s fits f) (suc turns) n h =
     let y : List ℕ = bytes_of width after in
     walk_leaf turns width types l first place (member_bytes width tag c ++ y) rows n _ _ _ y
-    (step_member width types l first place tag c y rows fr ∙ rw e (met-leaf types first (wire_of tag) place _ c _ y rows k w ab s fits))
+    (step_member width types l first place tag c y rows fr ∙ rw e (met_leaf types first (wire_of tag) place _ c _ y rows k w ab s fits))
     ∙ follow_walk f turns n (shorter width tag c y turns h).1
 follow_walk {width} {types} {l} {first} {place}
     (to_struct {tag = tag} {k = k} {inner = inner} {after = after} {rows = rows} {rows2 = rows2} fr e w ab s fi f) (suc turns) n h =
     let c : List ℕ = bytes_of width inner in
     let y : List ℕ = bytes_of width after in
-    walk-in turns width types l first place (member_bytes width tag c ++ y) rows n _ _ c _ y
-    (step_member width types l first place tag c y rows fr ∙ rw e (met-struct types first (wire_of tag) place _ c _ y rows k w ab s))
+    walk_in_lem turns width types l first place (member_bytes width tag c ++ y) rows n _ _ c _ y
+    (step_member width types l first place tag c y rows fr ∙ rw e (met_struct types first (wire_of tag) place _ c _ y rows k w ab s))
     _ _ (follow_walk fi turns n (shorter width tag c y turns h).0)
     ∙ follow_walk f turns _ (shorter width tag c y turns h).1 ∙ ap (walked rows2) (omega arith)
 
@@ -141,11 +141,11 @@ module _ (width : ℕ) (types : List TypeRow) (l first place : ℕ) where
           record { tree = stop; count = 0; bytes_are = sym eb; follows = subst (λ (vs : List Row). Follows width types l first place stop rows vs 0) er (to_stop h); count_is = omega arith }
 
   module _ (bytes : List ℕ) (tag : ℕ) (c y : List ℕ) (w : Written width bytes tag c y) (rows rows2 : List Row) (n n2 : ℕ) where
-    followed-skip : row_for types l first tag ≡ none
+    followed_skip : row_for types l first tag ≡ none
         → Followed width types l first (content_at width tag place + length c) y rows rows2 (suc n) n2
         → Followed width types l first place bytes rows rows2 n n2
     unfolding bytes_of
-    followed-skip e f = record {
+    followed_skip e f = record {
       tree = mem tag false c stop f.tree;
       count = suc f.count;
       bytes_are = rw f.bytes_are (sym w.bytes_are);
@@ -155,12 +155,12 @@ module _ (width : ℕ) (types : List TypeRow) (l first place : ℕ) where
 
     module _ (k : ℕ) (e : row_for types l first tag ≡ some k) (wf : wire_fits (row_at types (first + k)).kind (wire_of tag) ≡ true)
         (ab : is_absent (get_or rows (first + k) absent_row) ≡ true) where
-      followed-leaf : eqb (row_at types (first + k)).kind struct ≡ false → content_fits (row_at types (first + k)) c ≡ true
+      followed_leaf : eqb (row_at types (first + k)).kind struct ≡ false → content_fits (row_at types (first + k)) c ≡ true
           → Followed width types l first (content_at width tag place + length c) y
           (set rows (first + k) (shown_of (row_at types (first + k)) (content_at width tag place) c)) rows2 n n2
           → Followed width types l first place bytes rows rows2 n n2
       unfolding bytes_of
-      followed-leaf s fits f = record {
+      followed_leaf s fits f = record {
         tree = mem tag false c stop f.tree;
         count = f.count;
         bytes_are = rw f.bytes_are (sym w.bytes_are);
@@ -168,12 +168,12 @@ module _ (width : ℕ) (types : List TypeRow) (l first place : ℕ) where
         count_is = f.count_is;
       }
 
-      followed-struct : (rows1 : List Row) (n1 : ℕ) → eqb (row_at types (first + k)).kind struct ≡ true
+      followed_struct : (rows1 : List Row) (n1 : ℕ) → eqb (row_at types (first + k)).kind struct ≡ true
           → Followed width types (suc l) (suc (first + k)) (content_at width tag place) c (set rows (first + k) members_row) rows1 n n1
           → Followed width types l first (content_at width tag place + length c) y rows1 rows2 n1 n2
           → Followed width types l first place bytes rows rows2 n n2
       unfolding bytes_of
-      followed-struct rows1 n1 s g f =
+      followed_struct rows1 n1 s g f =
           let ec : c ≡ bytes_of width g.tree = sym g.bytes_are in
           record {
             tree = mem tag true [] g.tree f.tree;
@@ -201,12 +201,12 @@ walk_follow (suc turns) width types l first place bytes rows n rows2 n2 h e =
         followed_stop width types l first place bytes rows rows2 n n2 eb (sym (walk_finish turns width types l first place bytes rows n es) ∙ e)
     go es (is_skip {next = next} {y = y} tag p c m none_is) ih =
         let w = member_written width place bytes tag p c next y m h in
-        followed-skip width types l first place bytes tag c y w rows rows2 n n2 none_is
+        followed_skip width types l first place bytes tag c y w rows rows2 n n2 none_is
         (rw (m.next_is, m.place_is) at
         (ih l first next y rows (suc n) rows2 n2 w.y_bytes (sym (walk_skip turns width types l first place bytes rows n next y es) ∙ e)))
     go es (is_leaf {next = next} {y = y} tag p k c m ek wf ab s fits) ih =
         let w = member_written width place bytes tag p c next y m h in
-        followed-leaf width types l first place bytes tag c y w rows rows2 n n2 k ek wf ab s fits
+        followed_leaf width types l first place bytes tag c y w rows rows2 n n2 k ek wf ab s fits
         (rw (m.next_is, m.place_is) at
         (ih l first next y (set rows (first + k) (shown_of (row_at types (first + k)) p c)) n rows2 n2 w.y_bytes
         (sym (walk_leaf turns width types l first place bytes rows n (first + k) (shown_of (row_at types (first + k)) p c) next y es) ∙ e)))
@@ -218,10 +218,10 @@ walk_follow (suc turns) width types l first place bytes rows n rows2 n2 h e =
             → (r : Walked) → walk turns width types (suc l) (suc (first + k)) p c (set rows (first + k) members_row) n ≡ r
             → Followed width types l first place bytes rows rows2 n n2
         inside w (refused v q) z =
-            never (sym (walk-out turns width types l first place bytes rows n (first + k) p c next y es v q z) ∙ e)
+            never (sym (walk_out turns width types l first place bytes rows n (first + k) p c next y es v q z) ∙ e)
         inside w (walked rows1 n1) z =
-            followed-struct width types l first place bytes tag c y w rows rows2 n n2 k ek wf ab rows1 n1 s
+            followed_struct width types l first place bytes tag c y w rows rows2 n n2 k ek wf ab rows1 n1 s
             (rw m.place_is at (ih (suc l) (suc (first + k)) p c (set rows (first + k) members_row) n rows1 n1 w.c_bytes z))
             (rw (m.next_is, m.place_is) at
             (ih l first next y rows1 n1 rows2 n2 w.y_bytes
-            (sym (walk-in turns width types l first place bytes rows n (first + k) p c next y es rows1 n1 z) ∙ e)))
+            (sym (walk_in_lem turns width types l first place bytes rows n (first + k) p c next y es rows1 n1 z) ∙ e)))

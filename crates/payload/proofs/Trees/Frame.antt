@@ -189,16 +189,16 @@ module _ (width wire place : ℕ) (bytes : List ℕ) where
       go true t =
           let z : place + field_size width wire ≡ place = ap (place +◌) (field_no width wire t) ∙ add-zero place in
           rw z at (content_is (fixed_size wire) [] bytes refl (sym (field_no width wire t)) (says_no wire (number_of big []) t))
-      go false t = some-field (leb w (length bytes)) refl
+      go false t = some_field (leb w (length bytes)) refl
         where
-          some-field : (b : Bool) → leb w (length bytes) ≡ b
+          some_field : (b : Bool) → leb w (length bytes) ≡ b
               → BodyIs width wire place bytes
               (pick b (content_of (number_of big (take w bytes)) (place + w) (drop w bytes)) (cut FieldCut place))
-          some-field true t2 =
+          some_field true t2 =
               let z : place + field_size width wire ≡ place + w = ap (place +◌) (field_some width wire t) in
               rw z at (content_is (number_of big (take w bytes)) (take w bytes) (drop w bytes) (sym (take-append-drop w bytes))
               (length-take-le w bytes (leb-true w (length bytes) t2) ∙ sym (field_some width wire t)) (says_some wire (number_of big (take w bytes)) t))
-          some-field false t2 = is_cut {p = place} refl (omega arith) (omega arith)
+          some_field false t2 = is_cut {p = place} refl (omega arith) (omega arith)
 
 -- the member that a step was taken on: its tag, its content with its place, and the bytes behind it with theirs
 pub record MemberIs (width place : ℕ) (bytes : List ℕ) (tag p : ℕ) (c : List ℕ) (next : ℕ) (y : List ℕ) : Type 0 where

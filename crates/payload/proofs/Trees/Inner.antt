@@ -51,9 +51,9 @@ use Rattle.payload.specs.Tree.{member_bytes}
 use Rattle.payload.specs.Formed.{row_for, content_at, Framed}
 use Rattle.payload.specs.Bounds.{Entered}
 use Rattle.payload.specs.Moved.{move_row, AbsentAlike, Shifted, both_kept, both_set, Alike, alike_refused, alike_walked}
-use Rattle.payload.proofs.Trees.Walk.{walk_refuse, walk_finish, walk_skip, walk_leaf, walk-in, walk-out}
+use Rattle.payload.proofs.Trees.Walk.{walk_refuse, walk_finish, walk_skip, walk_leaf, walk_in_lem, walk_out}
 use Rattle.payload.proofs.Trees.Frame.{body_says, step_member, StepIs, is_enter, step_is}
-use Rattle.payload.proofs.Trees.Follow.{met-struct}
+use Rattle.payload.proofs.Trees.Follow.{met_struct}
 
 -- ---- what stands behind an inner level
 
@@ -67,7 +67,7 @@ pub step_inner : (width : ℕ) (types : List TypeRow) (l first place tag k : ℕ
     ≡ enter (first + k) (content_at width tag place) c (content_at width tag place + length c) y
 step_inner width types l first place tag k c rows fr e w ab s y =
     step_member width types l first place tag c y rows fr
-    ∙ rw e (met-struct types first (wire_of tag) place (content_at width tag place) c (content_at width tag place + length c) y rows k w ab s)
+    ∙ rw e (met_struct types first (wire_of tag) place (content_at width tag place) c (content_at width tag place + length c) y rows k w ab s)
 
 module _ (width : ℕ) (types : List TypeRow) (l first place : ℕ) (bytes : List ℕ) (rows : List Row) where
   entered_by : {i p : ℕ} {c : List ℕ} {next : ℕ} {y : List ℕ} → StepIs width types l first place bytes rows (enter i p c next y)
@@ -84,7 +84,7 @@ module _ (width : ℕ) (types : List TypeRow) (l first place : ℕ) (bytes : Lis
       again : (y2 : List ℕ) → step_of width types l first place (m.high ∷ m.low ∷ (m.field ++ (c ++ y2))) rows ≡ enter (first + k) p c next y2
       again y2 =
           rw (← m.tag_is, body_says width (wire_of tag) (place + 2) m.field c y2 m.field_is m.says, ek)
-          (met-struct types first (wire_of tag) place (content_at width tag place) c (content_at width tag place + length c) y2 rows k w ab s
+          (met_struct types first (wire_of tag) place (content_at width tag place) c (content_at width tag place + length c) y2 rows k w ab s
           ∙ ap₂ (λ (a b : ℕ). enter (first + k) a c b y2) (sym m.place_is) (ap (◌+ length c) (sym m.place_is) ∙ sym m.next_is))
 
   pub entered : (i p : ℕ) (c : List ℕ) (next : ℕ) (y : List ℕ) → step_of width types l first place bytes rows ≡ enter i p c next y
@@ -313,15 +313,15 @@ walk_moved q (suc turns) width types l first place bytes rows moved n a =
             → Is (walk (suc turns) width types l first place bytes rows n) (walk (suc turns) width types l first (q + place) bytes moved n)
         inner s z z2 (alike_refused {v = v} {p = p2}) =
             rw (
-              walk-out turns width types l first place bytes rows n i p c next y e v p2 z,
-              walk-out turns width types l first (q + place) bytes moved n i (q + p) c (q + next) y (m ∙ ap (move_step q) e) v (q + p2) z2,
+              walk_out turns width types l first place bytes rows n i p c next y e v p2 z,
+              walk_out turns width types l first (q + place) bytes moved n i (q + p) c (q + next) y (m ∙ ap (move_step q) e) v (q + p2) z2,
             )
             alike_refused
         inner s z z2 (alike_walked {rows2 = rows2} {moved2 = moved2} {n = n2} h h2 each2) =
             let s2 : Shift q (set rows i members_row) rows2 (set moved i members_row) moved2 = record { size = h; size2 = h2; each = each2 } in
             rw (
-              walk-in turns width types l first place bytes rows n i p c next y e rows2 n2 z,
-              walk-in turns width types l first (q + place) bytes moved n i (q + p) c (q + next) y (m ∙ ap (move_step q) e) moved2 n2 z2,
+              walk_in_lem turns width types l first place bytes rows n i p c next y e rows2 n2 z,
+              walk_in_lem turns width types l first (q + place) bytes moved n i (q + p) c (q + next) y (m ∙ ap (move_step q) e) moved2 n2 z2,
             )
             (alike_then s (alike_then s2 (ih l first next y rows2 moved2 n2
             (level_shift q (set rows i members_row) rows2 (set moved i members_row) moved2

@@ -104,8 +104,8 @@ module _ (types : List TypeRow) where
     pub there : (x k : ℕ) → find l x (drop first types) ≡ some k → seen x ≡ true → is_absent (get_or rows (first + k) absent_row) ≡ false
 
   module _ (l first : ℕ) (seen : ℕ → Bool) (rows : List Row) (met : Met l first seen rows) (y : ℕ) where
-    pub met-unknown : find l y (drop first types) ≡ none → Met l first (also y seen) rows
-    met-unknown e = record {
+    pub met_unknown : find l y (drop first types) ≡ none → Met l first (also y seen) rows
+    met_unknown e = record {
       size = met.size;
       fresh = λ x k j ex s b. met.fresh x k j ex (out (eqb y x) (seen x) s) b;
       there = λ x k ex s. go x k ex (eqb y x) refl s;
@@ -121,8 +121,8 @@ module _ (types : List TypeRow) where
         go x k ex false q s = met.there x k ex s
 
     module _ (i : ℕ) (e : find l y (drop first types) ≡ some i) where
-      pub met-known : (v : Row) → is_absent v ≡ false → Met l first (also y seen) (set rows (first + i) v)
-      met-known v hv = record {
+      pub met_known : (v : Row) → is_absent v ≡ false → Met l first (also y seen) (set rows (first + i) v)
+      met_known v hv = record {
         size = length-set rows (first + i) v ∙ met.size;
         fresh = λ x k j ex s b. fresh x k j ex (eqb y x) refl s b;
         there = λ x k ex s. there x k ex (eqb y x) refl s;
@@ -152,8 +152,8 @@ module _ (types : List TypeRow) where
               ∙ met.there x k ex s
 
       -- no member of a struct is met before the struct
-      pub met-inner : seen y ≡ false → (v : Row) → Met (suc l) (suc (first + i)) (λ x. false) (set rows (first + i) v)
-      met-inner s v = record {
+      pub met_inner : seen y ≡ false → (v : Row) → Met (suc l) (suc (first + i)) (λ x. false) (set rows (first + i) v)
+      met_inner s v = record {
         size = length-set rows (first + i) v ∙ met.size;
         fresh = λ x k j ex s2 b.
             let d : Below types l (first + i) j = below_inner types l first y i e x k j ex b in

@@ -24,7 +24,7 @@ use Rattle.payload.proofs.Trees.Walk.{pick_all}
 use Rattle.wire.proofs.NumberLaws.{bytes_nil, bytes_append, bytes_number_bytes}
 use Rattle.payload.proofs.Trees.Level.{none_some, true_false, below_self}
 use Rattle.payload.proofs.Trees.Follow.{Follows, to_stop, to_skip, to_leaf, to_struct, follow_walk, walk_follow}
-use Rattle.payload.proofs.Trees.Seen.{absent_members, absent_shown, follows_kept, also, Met, met-unknown, met-known, met-inner, met_after, met_first, end_misses}
+use Rattle.payload.proofs.Trees.Seen.{absent_members, absent_shown, follows_kept, also, Met, met_unknown, met_known, met_inner, met_after, met_first, end_misses}
 
 -- ---- what a tree gives, member by member
 
@@ -165,7 +165,7 @@ module _ (width : ℕ) (types : List TypeRow) (d : idents_differ types ≡ true)
   each_follows {l} {first} each_stop place rows seen all met sp mi once =
       record { rows2 = rows; count = 0; follows = to_stop (end_misses types l first seen rows all d met (λ x. sp x ∙ or_false (seen x)) ∙ mi) }
   each_follows {l} {first} (each_unknown {tag = tag} {c = c} {after = after} fr hc e ea) place rows seen all met sp mi once =
-      let a = each_follows ea _ rows (also (ident_of tag) seen) all (met-unknown types l first seen rows met (ident_of tag) e)
+      let a = each_follows ea _ rows (also (ident_of tag) seen) all (met_unknown types l first seen rows met (ident_of tag) e)
       (splits_next tag false c stop after all seen sp) mi (once_next tag false c stop after types l first seen (λ k ek. none_some (sym e ∙ ek)) once) in
       record { rows2 = a.rows2; count = suc a.count; follows = to_skip fr hc e a.follows }
   each_follows {l} {first} (each_leaf {tag = tag} {k = k} {c = c} {after = after} fr hc known ns fits ea) place rows seen all met sp mi once =
@@ -173,7 +173,7 @@ module _ (width : ℕ) (types : List TypeRow) (d : idents_differ types ≡ true)
       let n : seen (ident_of tag) ≡ false = not_seen tag false c stop after types l first seen k e once in
       let v : Row = shown_of (row_at types (first + k)) (content_at width tag place) c in
       let a = each_follows ea _ (set rows (first + k) v) (also (ident_of tag) seen) all
-      (met-known types l first seen rows met (ident_of tag) k e v (absent_shown (row_at types (first + k)) (content_at width tag place) c))
+      (met_known types l first seen rows met (ident_of tag) k e v (absent_shown (row_at types (first + k)) (content_at width tag place) c))
       (splits_next tag false c stop after all seen sp) mi (once_next tag false c stop after types l first seen (λ j ej. known.once) once) in
       record {
         rows2 = a.rows2;
@@ -184,10 +184,10 @@ module _ (width : ℕ) (types : List TypeRow) (d : idents_differ types ≡ true)
       let e : row_for types l first tag ≡ some k = known.found in
       let n : seen (ident_of tag) ≡ false = not_seen tag true [] inner after types l first seen k e once in
       let i = each_follows ei (content_at width tag place) (set rows (first + k) members_row) (λ x. false) inner
-      (met-inner types l first seen rows met (ident_of tag) k e n members_row) (λ x. refl) wi (λ x j ex sx. true_false (sym sx)) in
+      (met_inner types l first seen rows met (ident_of tag) k e n members_row) (λ x. refl) wi (λ x j ex sx. true_false (sym sx)) in
       let a = each_follows ea (content_at width tag place + length (bytes_of width inner)) i.rows2 (also (ident_of tag) seen) all
       (met_after types width l first (also (ident_of tag) seen) (set rows (first + k) members_row) i.rows2
-      (met-known types l first seen rows met (ident_of tag) k e members_row absent_members)
+      (met_known types l first seen rows met (ident_of tag) k e members_row absent_members)
       (ident_of tag) k e (also_own (ident_of tag) seen) (follows_kept width types i.follows))
       (splits_next tag true [] inner after all seen sp) mi (once_next tag true [] inner after types l first seen (λ j ej. known.once) once) in
       record {
@@ -214,7 +214,7 @@ module _ (width : ℕ) (types : List TypeRow) (d : idents_differ types ≡ true)
     once = λ x k ex sx. refl;
   }
   follows_reads {l} {first} (to_skip {tag = tag} {c = c} {after = after} {rows = rows} fr hc e f) seen all met sp =
-      let r = follows_reads f (also (ident_of tag) seen) all (met-unknown types l first seen rows met (ident_of tag) e)
+      let r = follows_reads f (also (ident_of tag) seen) all (met_unknown types l first seen rows met (ident_of tag) e)
       (splits_next tag false c stop after all seen sp) in
       record {
         each = each_unknown fr hc e r.each;
@@ -224,7 +224,7 @@ module _ (width : ℕ) (types : List TypeRow) (d : idents_differ types ≡ true)
   follows_reads {l} {first} {place} (to_leaf {tag = tag} {k = k} {c = c} {after = after} {rows = rows} fr hc e w ab ns fits f) seen all met sp =
       let v : Row = shown_of (row_at types (first + k)) (content_at width tag place) c in
       let r = follows_reads f (also (ident_of tag) seen) all
-      (met-known types l first seen rows met (ident_of tag) k e v (absent_shown (row_at types (first + k)) (content_at width tag place) c))
+      (met_known types l first seen rows met (ident_of tag) k e v (absent_shown (row_at types (first + k)) (content_at width tag place) c))
       (splits_next tag false c stop after all seen sp) in
       record {
         each = each_leaf fr hc (record { found = e; wire_fits_lem = w; once = r.once (ident_of tag) k e (also_own (ident_of tag) seen) }) ns fits r.each;
@@ -236,10 +236,10 @@ module _ (width : ℕ) (types : List TypeRow) (d : idents_differ types ≡ true)
       new j ej sj = let z : k ≡ j = cc in true_false (sym ab ∙ met.there (ident_of tag) k e sj)
   follows_reads {l} {first} {place} (to_struct {tag = tag} {k = k} {inner = inner} {after = after} {rows = rows} {rows1 = rows1} fr e w ab is fi f) seen all met sp =
       let n : seen (ident_of tag) ≡ false = new (seen (ident_of tag)) refl in
-      let i = follows_reads fi (λ x. false) inner (met-inner types l first seen rows met (ident_of tag) k e n members_row) (λ x. refl) in
+      let i = follows_reads fi (λ x. false) inner (met_inner types l first seen rows met (ident_of tag) k e n members_row) (λ x. refl) in
       let r = follows_reads f (also (ident_of tag) seen) all
       (met_after types width l first (also (ident_of tag) seen) (set rows (first + k) members_row) rows1
-      (met-known types l first seen rows met (ident_of tag) k e members_row absent_members)
+      (met_known types l first seen rows met (ident_of tag) k e members_row absent_members)
       (ident_of tag) k e (also_own (ident_of tag) seen) (follows_kept width types fi))
       (splits_next tag true [] inner after all seen sp) in
       record {

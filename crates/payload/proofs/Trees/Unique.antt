@@ -60,16 +60,16 @@ module _ (turns width : ℕ) (types : List TypeRow) (l first tag : ℕ) (c y : L
   tree_unknown e = tree_member ∙ rw e
 
   module _ (k : ℕ) (e : row_for types l first tag ≡ some k) where
-    tree-leaf : eqb (row_at types (first + k)).kind struct ≡ false
+    tree_leaf : eqb (row_at types (first + k)).kind struct ≡ false
         → tree_from (suc turns) width types l first (member_bytes width tag c ++ y) ≡ mem tag false c stop (tree_from turns width types l first y)
     unfolding tree_by for_row
-    tree-leaf s = tree_member ∙ rw (e, s)
+    tree_leaf s = tree_member ∙ rw (e, s)
 
-    tree-struct : eqb (row_at types (first + k)).kind struct ≡ true
+    tree_struct : eqb (row_at types (first + k)).kind struct ≡ true
         → tree_from (suc turns) width types l first (member_bytes width tag c ++ y)
         ≡ mem tag true [] (tree_from turns width types (suc l) (suc (first + k)) c) (tree_from turns width types l first y)
     unfolding tree_by for_row
-    tree-struct s = tree_member ∙ rw (e, s)
+    tree_struct s = tree_member ∙ rw (e, s)
 
 tree_again : {width : ℕ} {types : List TypeRow} {l first : ℕ} {m : Members} → Each width types l first m
     → (turns : ℕ) → length (bytes_of width m) < turns → tree_from turns width types l first (bytes_of width m) ≡ m
@@ -81,12 +81,12 @@ tree_again {width} {types} {l} {first} (each_unknown {tag = tag} {c = c} {after 
     tree_unknown turns width types l first tag c y fr e ∙ ap (mem tag false c stop) (tree_again ea turns (shorter width tag c y turns h).1)
 tree_again {width} {types} {l} {first} (each_leaf {tag = tag} {k = k} {c = c} {after = after} fr hc known ns fits ea) (suc turns) h =
     let y : List ℕ = bytes_of width after in
-    tree-leaf turns width types l first tag c y fr k known.found ns
+    tree_leaf turns width types l first tag c y fr k known.found ns
     ∙ ap (mem tag false c stop) (tree_again ea turns (shorter width tag c y turns h).1)
 tree_again {width} {types} {l} {first} (each_struct {tag = tag} {k = k} {inner = inner} {after = after} fr known is ei wi ea) (suc turns) h =
     let c : List ℕ = bytes_of width inner in
     let y : List ℕ = bytes_of width after in
-    tree-struct turns width types l first tag c y fr k known.found is
+    tree_struct turns width types l first tag c y fr k known.found is
     ∙ ap₂ (mem tag true []) (tree_again ei turns (shorter width tag c y turns h).0) (tree_again ea turns (shorter width tag c y turns h).1)
 
 -- ---- so bytes have one tree

@@ -70,15 +70,15 @@ module _ (turns width : ℕ) (types : List TypeRow) (l first place : ℕ) (bytes
   walk_leaf i r next more e = rw (e, walk)
 
   module _ (i p : ℕ) (c : List ℕ) (next : ℕ) (more : List ℕ) (e : step_of width types l first place bytes rows ≡ enter i p c next more) where
-    pub walk-in : (rows2 : List Row) (n2 : ℕ) → walk turns width types (suc l) (suc i) p c (set rows i members_row) n ≡ walked rows2 n2
+    pub walk_in_lem : (rows2 : List Row) (n2 : ℕ) → walk turns width types (suc l) (suc i) p c (set rows i members_row) n ≡ walked rows2 n2
         → walk (suc turns) width types l first place bytes rows n ≡ walk turns width types l first next more rows2 n2
     unfolding walk member_by level_by behind
-    walk-in rows2 n2 z = rw (e, z, walk)
+    walk_in_lem rows2 n2 z = rw (e, z, walk)
 
-    pub walk-out : (v : Verdict) (q : ℕ) → walk turns width types (suc l) (suc i) p c (set rows i members_row) n ≡ refused v q
+    pub walk_out : (v : Verdict) (q : ℕ) → walk turns width types (suc l) (suc i) p c (set rows i members_row) n ≡ refused v q
         → walk (suc turns) width types l first place bytes rows n ≡ refused v q
     unfolding walk member_by level_by behind
-    walk-out v q z = rw (e, z, walk)
+    walk_out v q z = rw (e, z, walk)
 
 -- ---- each step takes a byte at least
 
@@ -174,8 +174,8 @@ same_turns (suc f) (suc g) width types l first place bytes rows n hf hg =
             → walk f width types (suc l) (suc i) p c (set rows i members_row) n ≡ walk g width types (suc l) (suc i) p c (set rows i members_row) n
             → walk (suc f) width types l first place bytes rows n ≡ walk (suc g) width types l first place bytes rows n
         inside (refused v q) z same =
-            walk-out f width types l first place bytes rows n i p c next more e v q z
-            ∙ sym (walk-out g width types l first place bytes rows n i p c next more e v q (sym same ∙ z))
+            walk_out f width types l first place bytes rows n i p c next more e v q z
+            ∙ sym (walk_out g width types l first place bytes rows n i p c next more e v q (sym same ∙ z))
         inside (walked rows2 n2) z same =
-            walk-in f width types l first place bytes rows n i p c next more e rows2 n2 z ∙ ih l first next more rows2 n2 hm
-            ∙ sym (walk-in g width types l first place bytes rows n i p c next more e rows2 n2 (sym same ∙ z))
+            walk_in_lem f width types l first place bytes rows n i p c next more e rows2 n2 z ∙ ih l first next more rows2 n2 hm
+            ∙ sym (walk_in_lem g width types l first place bytes rows n i p c next more e rows2 n2 (sym same ∙ z))

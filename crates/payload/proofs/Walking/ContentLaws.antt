@@ -35,9 +35,9 @@ module _ (p : List ℕ) (width wire at end : ℕ) (h : at ≤ end) (l : end ≤ 
   Is r = (body_in p end r ≡ body_of width wire at (slice at end p)) × Inside at end r
 
   module _ (n : ℕ) (few : wire < 4) (e : n ≡ fixed_size wire) where
-    pub fixed-cut : end - at < n → Is (Cut Overrun at)
+    pub fixed_cut : end - at < n → Is (Cut Overrun at)
     unfolding body_of content_of
-    fixed-cut k = (rw (lt-ltb wire 4 few, ← e, length-slice at end p l, lt-leb n (end - at) k), tt)
+    fixed_cut k = (rw (lt-ltb wire 4 few, ← e, length-slice at end p l, lt-leb n (end - at) k), tt)
 
     pub fixed_in : n ≤ end - at → Is (In (record { from = at; end = at + n }))
     unfolding body_of content_of
@@ -52,9 +52,9 @@ module _ (p : List ℕ) (width wire at end : ℕ) (h : at ≤ end) (l : end ≤ 
     field_cut k = (rw (le-ltb wire 4 many, ← e, length-slice at end p l, lt-leb w (end - at) k), tt)
 
     module _ (n : ℕ) (d : n ≡ number_of big (slice at (at + w) p)) (k : w ≤ end - at) where
-      pub lengthed-cut : end - (at + w) < n → Is (Cut Overrun (at + w))
+      pub lengthed_cut : end - (at + w) < n → Is (Cut Overrun (at + w))
       unfolding body_of lengthed_of content_of
-      lengthed-cut m = (
+      lengthed_cut m = (
         rw (
           le-ltb wire 4 many,
           ← e,
@@ -69,9 +69,9 @@ module _ (p : List ℕ) (width wire at end : ℕ) (h : at ≤ end) (l : end ≤ 
         tt,
       )
 
-      pub lengthed-in : n ≤ end - (at + w) → Is (In (record { from = at + w; end = at + w + n }))
+      pub lengthed_in : n ≤ end - (at + w) → Is (In (record { from = at + w; end = at + w + n }))
       unfolding body_of lengthed_of content_of
-      lengthed-in m = (
+      lengthed_in m = (
         rw (
           le-ltb wire 4 many,
           ← e,

@@ -149,11 +149,11 @@ size_eight k h l a b c = go (eqb w 0) (eqb w 1) (eqb w 2) (number_size k h l)
 
 module _ (types : List TypeRow) (words marks : List ℕ) where
   -- the first i rows, and absent ones beyond
-  abbrev pub firstRows : ℕ → List Row
-  firstRows i = full (take i (kept types words marks))
+  abbrev pub first_rows : ℕ → List Row
+  first_rows i = full (take i (kept types words marks))
 
   pub first_more : (i : ℕ) → i < length types → length types ≤ 64
-      → set (firstRows i) i (kept_row (row_at types i).kind (get_or words i 0) (get_or marks i 0)) ≡ firstRows (suc i)
+      → set (first_rows i) i (kept_row (row_at types i).kind (get_or words i 0) (get_or marks i 0)) ≡ first_rows (suc i)
   first_more i h l =
       let n = length_kept words marks types in
       let t : length (take i (kept types words marks)) ≡ i = length-take-le i (kept types words marks) (omega arith) in
@@ -169,13 +169,13 @@ module _ (types : List TypeRow) (words marks : List ℕ) where
         append_snoc (take i (kept types words marks)) _ (replicate (64 - suc i) absent_row),
       )
 
-  pub first_all : (i : ℕ) → length types ≤ i → firstRows i ≡ full (kept types words marks)
+  pub first_all : (i : ℕ) → length types ≤ i → first_rows i ≡ full (kept types words marks)
   first_all i h = ap full (take_all i (kept types words marks) (omega (arith, length_kept words marks types)))
 
 -- one turn of the loop that shows the rows
-pub kept_more : (cells words marks : List ℕ) (n i : ℕ) → i < n → n ≤ 64 → (rows : List Row) → rows ≡ firstRows (table_in n cells) words marks i
+pub kept_more : (cells words marks : List ℕ) (n i : ℕ) → i < n → n ≤ 64 → (rows : List Row) → rows ≡ first_rows (table_in n cells) words marks i
     → (k : ℕ) → k ≡ kind_in (get_or cells i 0) → (row : Row) → row ≡ kept_row k (get_or words i 0) (get_or marks i 0)
-    → set rows i row ≡ firstRows (table_in n cells) words marks (i + 1)
+    → set rows i row ≡ first_rows (table_in n cells) words marks (i + 1)
 kept_more cells words marks n i h l rows er k ek row ew =
     let t = table_length n cells in
     rw (
@@ -187,7 +187,7 @@ kept_more cells words marks n i h l rows er k ek row ew =
     )
 
 -- the loop's end
-pub kept_all : (cells words marks : List ℕ) (n i : ℕ) → n ≤ i → (rows : List Row) → rows ≡ firstRows (table_in n cells) words marks i
+pub kept_all : (cells words marks : List ℕ) (n i : ℕ) → n ≤ i → (rows : List Row) → rows ≡ first_rows (table_in n cells) words marks i
     → rows ≡ full (kept (table_in n cells) words marks)
 kept_all cells words marks n i h rows e = e ∙ first_all (table_in n cells) words marks i (omega (arith, table_length n cells))
 

@@ -21,11 +21,11 @@ use Rattle.payload.proofs.Walking.KeptLaws.{kept_absent, kept_at, length_kept}
 
 module _ (cells marks : List ℕ) (n l : ℕ) (words : List ℕ) where
   -- from row i on a required row of the level is missing
-  abbrev pub lacksAt : ℕ → Bool
-  lacksAt i = lacks l (drop i (table_in n cells)) (drop i (kept (table_in n cells) words marks))
+  abbrev pub lacks_at : ℕ → Bool
+  lacks_at i = lacks l (drop i (table_in n cells)) (drop i (kept (table_in n cells) words marks))
 
   module _ (i : ℕ) where
-    lacks_end : n ≤ i → lacksAt i ≡ false
+    lacks_end : n ≤ i → lacks_at i ≡ false
     unfolding lacks
     lacks_end h = rw (rows_end cells n i h)
 
@@ -42,13 +42,13 @@ module _ (cells marks : List ℕ) (n l : ℕ) (words : List ℕ) where
           (kept_at words marks (table_in n cells) i (omega arith)
           ∙ ap (λ (t : TypeRow). kept_row t.kind (get_or words i 0) (get_or marks i 0)) (row_at_lem cells n i _ h))
 
-      lacks-above : level_in cell < l → lacksAt i ≡ false
+      lacks_above : level_in cell < l → lacks_at i ≡ false
       unfolding lacks
-      lacks-above e = rw (rows_here cells n i h, row_here, lt-ltb (level_in cell) l e)
+      lacks_above e = rw (rows_here cells n i h, row_here, lt-ltb (level_in cell) l e)
 
-      pub lacks-this : level_in cell ≡ l → required_in cell ≡ true → get_or marks i 0 ≡ 0 → lacksAt i ≡ true
+      pub lacks_this : level_in cell ≡ l → required_in cell ≡ true → get_or marks i 0 ≡ 0 → lacks_at i ≡ true
       unfolding lacks
-      lacks-this e r z =
+      lacks_this e r z =
           rw (
             rows_here cells n i h,
             row_here,
@@ -59,9 +59,9 @@ module _ (cells marks : List ℕ) (n l : ℕ) (words : List ℕ) where
             eq-eqb (get_or marks i 0) 0 z,
           )
 
-      pub lacks-next : l ≤ level_in cell → (level_in cell ≡ l → required_in cell ≡ true → get_or marks i 0 ≡ 0 → ⊥) → lacksAt i ≡ lacksAt (suc i)
+      pub lacks_next : l ≤ level_in cell → (level_in cell ≡ l → required_in cell ≡ true → get_or marks i 0 ≡ 0 → ⊥) → lacks_at i ≡ lacks_at (suc i)
       unfolding lacks
-      lacks-next e ne =
+      lacks_next e ne =
           rw (
             rows_here cells n i h,
             row_here,
@@ -71,16 +71,16 @@ module _ (cells marks : List ℕ) (n l : ℕ) (words : List ℕ) where
           (go (eqb (level_in cell) l) (required_in cell) (eqb (get_or marks i 0) 0) refl refl refl)
         where
           go : (a b d : Bool) → eqb (level_in cell) l ≡ a → required_in cell ≡ b → eqb (get_or marks i 0) 0 ≡ d
-              → or (and a (and b d)) (lacksAt (suc i)) ≡ lacksAt (suc i)
+              → or (and a (and b d)) (lacks_at (suc i)) ≡ lacks_at (suc i)
           go true true true ea eb ed = absurd (ne (eqb-true (level_in cell) l ea) eb (eqb-true (get_or marks i 0) 0 ed))
           go true true false ea eb ed = refl
           go true false d ea eb ed = refl
           go false b d ea eb ed = refl
 
   -- where the level's rows stop
-  pub lacks_stop : (stop : ℕ) → (stop < n → level_in (get_or cells stop 0) < l) → lacksAt stop ≡ false
+  pub lacks_stop : (stop : ℕ) → (stop < n → level_in (get_or cells stop 0) < l) → lacks_at stop ≡ false
   lacks_stop stop shut = go (ltb stop n) refl
     where
-      go : (b : Bool) → ltb stop n ≡ b → lacksAt stop ≡ false
-      go true e = lacks-above stop (ltb-true stop n e) (shut (ltb-true stop n e))
+      go : (b : Bool) → ltb stop n ≡ b → lacks_at stop ≡ false
+      go true e = lacks_above stop (ltb-true stop n e) (shut (ltb-true stop n e))
       go false e = lacks_end stop (ltb-false stop n e)

@@ -75,9 +75,9 @@ module _ (p cells words marks : List ℕ) (c : Cursor) (f : Frame) where
       unfolding walk
       turn turns k = rw (← m.is turns (omega arith))
 
-      pub way-more : (next : Cursor) → r ≡ Going next → OnWay p cells words marks c f next words3 marks3
+      pub way_more : (next : Cursor) → r ≡ Going next → OnWay p cells words marks c f next words3 marks3
       unfolding level_by
-      way-more next e =
+      way_more next e =
           let o : Onward (suc u.at) f.end (Going next) = subst (Onward (suc u.at) f.end) e m.onward in
           record {
             ready = record { steady = way.ready.steady; inside = o.1; few = o.2; all_words = m.all_words; all_marks = m.all_marks };
@@ -90,9 +90,9 @@ module _ (p cells words marks : List ℕ) (c : Cursor) (f : Frame) where
           go o (zero, k, d) = absurd (omega arith)
           go o (suc more, k, d) = (more, omega (arith, o.0, o.1), d ∙ turn more k ∙ rw e)
 
-      pub way-refused : (v : Verdict) (place : ℕ) → r ≡ Refused v place → (x : Walk) → x ≡ Refused v place → LevelRead p cells words marks c f x words3 marks3
+      pub way_refused : (v : Verdict) (place : ℕ) → r ≡ Refused v place → (x : Walk) → x ≡ Refused v place → LevelRead p cells words marks c f x words3 marks3
       unfolding level_by
-      way-refused v place e x dx =
+      way_refused v place e x dx =
           record { is = λ turns k. rw dx (go (way.same turns k)); onward = rw dx tt; all_words = m.all_words; all_marks = m.all_marks }
         where
           go : {y : Walked} → (more : ℕ) × (f.end - u.at < more) × (y ≡ walk_from p cells f more u words2 marks2) → refused v place ≡ y
@@ -105,22 +105,22 @@ module _ (p cells words marks : List ℕ) (c : Cursor) (f : Frame) where
       unfolding walk step_of member_by level_by end_of
       shut b e turns k = go (way.same turns k)
         where
-          at-end : u.at ≡ f.end
-          at-end = omega (arith, way.ready.inside)
+          at_end_lem : u.at ≡ f.end
+          at_end_lem = omega (arith, way.ready.inside)
 
           go : {y : Walked} → (more : ℕ) × (f.end - u.at < more) × (y ≡ walk_from p cells f more u words2 marks2)
               → pick b (refused Missing f.end) (walked (kept types words2 marks2) u.skipped) ≡ y
           go (zero, k, d) = absurd (omega arith)
-          go (suc more, k, d) = sym (d ∙ rw (at-end, slice_empty f.end p, e))
+          go (suc more, k, d) = sym (d ∙ rw (at_end_lem, slice_empty f.end p, e))
 
-      pub way-missing : lacks f.level (drop f.first types) (drop f.first (kept types words2 marks2)) ≡ true → (x : Walk) → x ≡ Refused Missing f.end
+      pub way_missing : lacks f.level (drop f.first types) (drop f.first (kept types words2 marks2)) ≡ true → (x : Walk) → x ≡ Refused Missing f.end
           → LevelRead p cells words marks c f x words2 marks2
-      way-missing e x dx =
+      way_missing e x dx =
           record { is = λ turns k. rw dx (shut true e turns k); onward = rw dx tt; all_words = way.ready.all_words; all_marks = way.ready.all_marks }
 
-      pub way-closed : lacks f.level (drop f.first types) (drop f.first (kept types words2 marks2)) ≡ false → (x : Walk) → x ≡ Going u
+      pub way_closed : lacks f.level (drop f.first types) (drop f.first (kept types words2 marks2)) ≡ false → (x : Walk) → x ≡ Going u
           → LevelRead p cells words marks c f x words2 marks2
-      way-closed e x dx =
+      way_closed e x dx =
           record {
             is = λ turns k. rw dx (shut false e turns k);
             onward = rw dx (h, way.ready.inside, way.ready.few);
@@ -140,9 +140,9 @@ module _ (p cells words marks : List ℕ) (c : Cursor) (f : Frame) where
         (step_of f.width types f.level f.first c.at (slice c.at f.end p) (kept types words marks))
     read_by turns d = d ∙ ap (member_by (inner turns) (kept types words marks) c.skipped) (at.is words)
 
-    pub read-bad : (v : Verdict) (place : ℕ) → m ≡ Bad v place → (r : Walk) → r ≡ Refused v place → MemberRead p cells words marks c f r words marks
+    pub read_bad : (v : Verdict) (place : ℕ) → m ≡ Bad v place → (r : Walk) → r ≡ Refused v place → MemberRead p cells words marks c f r words marks
     unfolding member_by
-    read-bad v place e r d =
+    read_bad v place e r d =
         record {
           is = λ turns k. rw d (read_by turns (rw e));
           onward = rw d tt;
@@ -150,9 +150,9 @@ module _ (p cells words marks : List ℕ) (c : Cursor) (f : Frame) where
           all_marks = ready.all_marks;
         }
 
-    pub read-unknown : (to n : ℕ) → m ≡ Unknown to → n ≡ c.skipped + 1 → (r : Walk) → r ≡ Going (record { at = to; skipped = n }) → MemberRead p cells words marks c f r words marks
+    pub read_unknown : (to n : ℕ) → m ≡ Unknown to → n ≡ c.skipped + 1 → (r : Walk) → r ≡ Going (record { at = to; skipped = n }) → MemberRead p cells words marks c f r words marks
     unfolding member_by
-    read-unknown to n e en r d =
+    read_unknown to n e en r d =
         let w : MemberIn cells (c.at + 2) f (Unknown to) = subst (MemberIn cells (c.at + 2) f) e at.within in
         let s : n ≡ suc c.skipped = en ∙ add-one c.skipped in
         record {
@@ -163,11 +163,11 @@ module _ (p cells words marks : List ℕ) (c : Cursor) (f : Frame) where
         }
 
     module _ (s : Spot) (words2 marks2 : List ℕ) (dw : words2 ≡ set words s.row s.word) (dm : marks2 ≡ set marks s.row s.mark) where
-      words-all : length words2 ≡ 64
-      words-all = ap length dw ∙ length-set words s.row s.word ∙ ready.all_words
+      words_all : length words2 ≡ 64
+      words_all = ap length dw ∙ length-set words s.row s.word ∙ ready.all_words
 
-      marks-all : length marks2 ≡ 64
-      marks-all = ap length dm ∙ length-set marks s.row s.mark ∙ ready.all_marks
+      marks_all : length marks2 ≡ 64
+      marks_all = ap length dm ∙ length-set marks s.row s.mark ∙ ready.all_marks
 
       -- the row is kept
       kept_more : s.row < f.count → kept types words2 marks2 ≡ set (kept types words marks) s.row (kept_row (row_at types s.row).kind s.word s.mark)
@@ -179,47 +179,47 @@ module _ (p cells words marks : List ℕ) (c : Cursor) (f : Frame) where
             kept_set words marks types s.row s.word s.mark (omega (arith, table_length f.count cells)) (omega (arith, ready.all_words)) (omega (arith, ready.all_marks)),
           )
 
-      pub read-leaf : m ≡ Leaf s → (r : Walk) → r ≡ Going (record { at = s.end; skipped = c.skipped }) → MemberRead p cells words marks c f r words2 marks2
+      pub read_leaf : m ≡ Leaf s → (r : Walk) → r ≡ Going (record { at = s.end; skipped = c.skipped }) → MemberRead p cells words marks c f r words2 marks2
       unfolding member_by
-      read-leaf e r d =
+      read_leaf e r d =
           let w : MemberIn cells (c.at + 2) f (Leaf s) = subst (MemberIn cells (c.at + 2) f) e at.within in
           let o = w.0 in
           record {
             is = λ turns k. rw d (read_by turns (rw (e, kept_more w.1)));
             onward = rw d (omega (arith, o.tagged, o.ordered), o.ended, omega (arith, o.tagged, o.ordered, ready.few));
-            all_words = words-all;
-            all_marks = marks-all;
+            all_words = words_all;
+            all_marks = marks_all;
           }
 
       module _ (e : m ≡ Struct s) where
-        in-level : MemberIn cells (c.at + 2) f (Struct s)
-        in-level = subst (MemberIn cells (c.at + 2) f) e at.within
+        in_level : MemberIn cells (c.at + 2) f (Struct s)
+        in_level = subst (MemberIn cells (c.at + 2) f) e at.within
 
-        pub inner-low : (f.level ≤ 4) × (s.row < f.count) × (f.count ≤ 64)
-        inner-low = (in-level.2, in-level.1, ready.steady.fine.few)
+        pub inner_low : (f.level ≤ 4) × (s.row < f.count) × (f.count ≤ 64)
+        inner_low = (in_level.2, in_level.1, ready.steady.fine.few)
 
-        pub inner-less : (s.end - s.from) * 2 + 1 < (f.end - c.at) * 2
-        inner-less = let o = in-level.0 in omega (arith, o.tagged, o.ordered, o.ended)
+        pub inner_less : (s.end - s.from) * 2 + 1 < (f.end - c.at) * 2
+        inner_less = let o = in_level.0 in omega (arith, o.tagged, o.ordered, o.ended)
 
-        pub inner-ready : (start : Cursor) → start ≡ record { at = s.from; skipped = c.skipped } → (g : Frame) → g ≡ inner_of f s g.stop
+        pub inner_ready : (start : Cursor) → start ≡ record { at = s.from; skipped = c.skipped } → (g : Frame) → g ≡ inner_of f s g.stop
             → Stops cells (s.row + 1) g.stop f.count (f.level + 1) → Ready p cells words2 marks2 start g
-        inner-ready start ds g dg stops =
-            let o = in-level.0 in
+        inner_ready start ds g dg stops =
+            let o = in_level.0 in
             rw (ds, dg) (record {
               steady = record
-                  { fine = ready.steady.fine; low = omega (arith, in-level.2); narrow = ready.steady.narrow; bounded = omega (arith, o.ended, ready.steady.bounded); stops = stops };
+                  { fine = ready.steady.fine; low = omega (arith, in_level.2); narrow = ready.steady.narrow; bounded = omega (arith, o.ended, ready.steady.bounded); stops = stops };
               inside = o.ordered;
               few = omega (arith, o.tagged, ready.few);
-              all_words = words-all;
-              all_marks = marks-all;
+              all_words = words_all;
+              all_marks = marks_all;
             })
 
         -- a struct's members, and what stands behind the struct
-        pub read-struct : (start : Cursor) → start ≡ record { at = s.from; skipped = c.skipped } → (g : Frame) → g ≡ inner_of f s g.stop
+        pub read_struct : (start : Cursor) → start ≡ record { at = s.from; skipped = c.skipped } → (g : Frame) → g ≡ inner_of f s g.stop
             → (r : Walk) (words3 marks3 : List ℕ) → LevelRead p cells words2 marks2 start g r words3 marks3 → MemberRead p cells words marks c f r words3 marks3
         unfolding member_by behind
-        read-struct start ds g dg r words3 marks3 l0 =
-            let o = in-level.0 in
+        read_struct start ds g dg r words3 marks3 l0 =
+            let o = in_level.0 in
             record {
               is = λ turns k.
                   let w = rw (add-one f.level, add-one s.row) at (l.is turns (omega (arith, o.tagged, o.ordered, o.ended))) in
@@ -233,12 +233,12 @@ module _ (p cells words marks : List ℕ) (c : Cursor) (f : Frame) where
             l = rw (ds, dg) at l0
 
             members : kept types words2 marks2 ≡ set (kept types words marks) s.row members_row
-            members = kept_more in-level.1 ∙ rw (in-level.4, kept_struct (row_at types s.row).kind s.word in-level.3)
+            members = kept_more in_level.1 ∙ rw (in_level.4, kept_struct (row_at types s.row).kind s.word in_level.3)
 
             go : (r : Walk) → Onward s.end s.end r → behind s.end (slice s.end f.end p) (walk_in types words3 marks3 r) ≡ moved_in p f.end types words3 marks3 r
             go (Going x) w = let z : s.end ≡ x.at = omega arith in rw z
             go (Refused v place) w = refl
 
             past : (r : Walk) → Onward s.end s.end r → Onward (suc c.at) f.end r
-            past (Going x) w = let o = in-level.0 in (omega (arith, w.0, o.tagged, o.ordered), omega (arith, w.1, o.ended), w.2)
+            past (Going x) w = let o = in_level.0 in (omega (arith, w.0, o.tagged, o.ordered), omega (arith, w.1, o.ended), w.2)
             past (Refused v place) w = tt

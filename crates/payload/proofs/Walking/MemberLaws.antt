@@ -139,9 +139,9 @@ module _ (p : List ℕ) (at end : ℕ) (b : Body) (o : Content) (e : body_in p e
       record { is = λ types. rw (k, ← e, d); within = rw k (omega arith, s.2) }
 
   module _ (i : ℕ) (t : TypeRow) where
-    pub known-cut : (v : Verdict) (place : ℕ) → o ≡ Cut v place → (r : Member) → r ≡ Bad v place → KnownRead p at end i t b r
+    pub known_cut : (v : Verdict) (place : ℕ) → o ≡ Cut v place → (r : Member) → r ≡ Bad v place → KnownRead p at end i t b r
     unfolding known
-    known-cut v place d r k = record { is = λ types q. rw (k, ← e, d); within = rw k tt }
+    known_cut v place d r k = record { is = λ types q. rw (k, ← e, d); within = rw k tt }
 
     widen : (c : Span) → Inside at end (In c) → (r : Member) → KnownIn c.from c.end i t r → KnownIn at end i t r
     widen c s (Bad v place) w = tt
@@ -177,24 +177,24 @@ module _ (p cells marks : List ℕ) (at : ℕ) (f : Frame) where
       (wire : ℕ) (ew : wire ≡ wire_of tag) (ident : ℕ) (ei : ident ≡ ident_of tag)
       (found : Found) (e : found ≡ found_at f.first (find f.level ident (drop f.first types)))
       (within : Within cells f.first f.count f.level found) where
-    tag-bytes : (end : ℕ) → at + 2 ≤ end → end ≤ length p → slice at end p ≡ get_or p at 0 ∷ get_or p (suc at) 0 ∷ slice (at + 2) end p
-    tag-bytes end a b =
+    tag_bytes_lem : (end : ℕ) → at + 2 ≤ end → end ≤ length p → slice at end p ≡ get_or p at 0 ∷ get_or p (suc at) 0 ∷ slice (at + 2) end p
+    tag_bytes_lem end a b =
         let z : suc (suc at) ≡ at + 2 = omega arith in
         slice-cons at end p 0 (omega arith) b ∙ ap (get_or p at 0 ∷◌) (slice-cons (suc at) end p 0 (omega arith) b ∙ rw z)
 
     tag_is : number_of big (get_or p at 0 ∷ get_or p (suc at) 0 ∷ []) ≡ tag
     tag_is =
         let l = steady.bounded in
-        sym (t ∙ ap (number_of big) (tag-bytes (at + 2) (omega arith) (omega arith) ∙ rw (slice_empty (at + 2) p)))
+        sym (t ∙ ap (number_of big) (tag_bytes_lem (at + 2) (omega arith) (omega arith) ∙ rw (slice_empty (at + 2) p)))
 
     abbrev body : Body
     body = body_of f.width wire (at + 2) (slice (at + 2) f.end p)
 
     -- the step behind the tag
-    step-met : (words : List ℕ)
+    step_met : (words : List ℕ)
         → step words ≡ met types f.first wire at body (kept types words marks) (find f.level ident (drop f.first types))
     unfolding step_of
-    step-met words = rw (tag-bytes f.end (omega arith) steady.bounded, tag_is, ew, ei)
+    step_met words = rw (tag_bytes_lem f.end (omega arith) steady.bounded, tag_is, ew, ei)
 
     abbrev looked : Option ℕ
     looked = find f.level ident (drop f.first types)
@@ -203,11 +203,11 @@ module _ (p cells marks : List ℕ) (at : ℕ) (f : Frame) where
     found_none none q = refl
     found_none (some k) q = let z : ◌≡◌ {A = ℕ} 0 1 = cc in absurd (omega arith)
 
-    pub member-unknown : found ≡ Nothing → (r : Member) → UnknownRead p (at + 2) f.end body r → MemberAt p cells marks at f r
+    pub member_unknown : found ≡ Nothing → (r : Member) → UnknownRead p (at + 2) f.end body r → MemberAt p cells marks at f r
     unfolding met
-    member-unknown d r u =
+    member_unknown d r u =
         let z = found_none looked (sym d ∙ e) in
-        record { is = λ words. u.is types ∙ sym (step-met words ∙ rw z); within = place r u.within }
+        record { is = λ words. u.is types ∙ sym (step_met words ∙ rw z); within = place r u.within }
       where
         place : (r : Member) → UnknownIn (at + 2) f.end r → MemberIn cells (at + 2) f r
         place (Bad v q) w = tt
@@ -216,11 +216,11 @@ module _ (p cells marks : List ℕ) (at : ℕ) (f : Frame) where
         place (Struct s) w = absurd w
 
     module _ (i : ℕ) (d : found ≡ At i) where
-      in-level : Within cells f.first f.count f.level (At i)
-      in-level = subst (Within cells f.first f.count f.level) d within
+      in_level : Within cells f.first f.count f.level (At i)
+      in_level = subst (Within cells f.first f.count f.level) d within
 
       type_is : row_at types i ≡ row_in (get_or cells i 0)
-      type_is = row_at_lem cells f.count i _ in-level.1
+      type_is = row_at_lem cells f.count i _ in_level.1
 
       -- the step of the row that was found
       abbrev Met : Step → Type 0
@@ -230,13 +230,13 @@ module _ (p cells marks : List ℕ) (at : ℕ) (f : Frame) where
           (refuse Wire at)
           → s ≡ step words
 
-      step-found : (s : Step) → Met s
+      step_found : (s : Step) → Met s
       unfolding met
-      step-found s words q = q ∙ sym (step-met words ∙ go looked (sym d ∙ e))
+      step_found s words q = q ∙ sym (step_met words ∙ go looked (sym d ∙ e))
         where
-          absent-is : is_absent (get_or (kept types words marks) i absent_row) ≡ eqb (get_or marks i 0) 0
-          absent-is =
-              ap is_absent (kept_at words marks types i (omega (arith, in-level.1, table_length f.count cells)))
+          absent_is : is_absent (get_or (kept types words marks) i absent_row) ≡ eqb (get_or marks i 0) 0
+          absent_is =
+              ap is_absent (kept_at words marks types i (omega (arith, in_level.1, table_length f.count cells)))
               ∙ kept_absent _ _ _
 
           go : (o : Option ℕ) → At i ≡ found_at f.first o
@@ -245,24 +245,24 @@ module _ (p cells marks : List ℕ) (at : ℕ) (f : Frame) where
               (pick (eqb (get_or marks i 0) 0) (known i (row_in (get_or cells i 0)) body) (refuse Twice at))
               (refuse Wire at)
           go none y = let z : ◌≡◌ {A = ℕ} 0 1 = cc in absurd (omega arith)
-          go (some k) y = let z : i ≡ f.first + k = cc in rw (← z, type_is, absent-is)
+          go (some k) y = let z : i ≡ f.first + k = cc in rw (← z, type_is, absent_is)
 
-      pub member-wire : wire_fits (kind_in (get_or cells i 0)) wire ≡ false → (r : Member) → r ≡ Bad Wire at → MemberAt p cells marks at f r
-      member-wire w r q = record { is = λ words. rw q (step-found _ words (rw w)); within = rw q tt }
+      pub member_wire : wire_fits (kind_in (get_or cells i 0)) wire ≡ false → (r : Member) → r ≡ Bad Wire at → MemberAt p cells marks at f r
+      member_wire w r q = record { is = λ words. rw q (step_found _ words (rw w)); within = rw q tt }
 
       module _ (w : wire_fits (kind_in (get_or cells i 0)) wire ≡ true) where
-        pub member-twice : (get_or marks i 0 ≡ 0 → ⊥) → (r : Member) → r ≡ Bad Twice at → MemberAt p cells marks at f r
-        member-twice n r q = record { is = λ words. rw q (step-found _ words (rw (w, ne_eqb (get_or marks i 0) 0 n))); within = rw q tt }
+        pub member_twice : (get_or marks i 0 ≡ 0 → ⊥) → (r : Member) → r ≡ Bad Twice at → MemberAt p cells marks at f r
+        member_twice n r q = record { is = λ words. rw q (step_found _ words (rw (w, ne_eqb (get_or marks i 0) 0 n))); within = rw q tt }
 
-        pub member-known : get_or marks i 0 ≡ 0 → (r : Member) → KnownRead p (at + 2) f.end i (row_in (get_or cells i 0)) body r → MemberAt p cells marks at f r
-        member-known n r k =
+        pub member_known : get_or marks i 0 ≡ 0 → (r : Member) → KnownRead p (at + 2) f.end i (row_in (get_or cells i 0)) body r → MemberAt p cells marks at f r
+        member_known n r k =
             record {
-              is = λ words. k.is types type_is ∙ step-found _ words (rw (w, eq-eqb (get_or marks i 0) 0 n));
+              is = λ words. k.is types type_is ∙ step_found _ words (rw (w, eq-eqb (get_or marks i 0) 0 n));
               within = place r k.within;
             }
           where
             level_is : f.level ≤ 4
-            level_is = omega (arith, (steady.fine.each i in-level.1).level_in_lem, in-level.2)
+            level_is = omega (arith, (steady.fine.each i in_level.1).level_in_lem, in_level.2)
 
             spot : (s : Spot) → SpotIn (at + 2) f.end i s → SpotIn (at + 2) f.end s.row s
             spot s x = record { row_is = refl; tagged = x.tagged; ordered = x.ordered; ended = x.ended }
@@ -270,6 +270,6 @@ module _ (p cells marks : List ℕ) (at : ℕ) (f : Frame) where
             place : (r : Member) → KnownIn (at + 2) f.end i (row_in (get_or cells i 0)) r → MemberIn cells (at + 2) f r
             place (Bad v q) x = tt
             place (Unknown to) x = absurd x
-            place (Leaf s) x = (spot s x, omega (arith, x.row_is, in-level.1))
+            place (Leaf s) x = (spot s x, omega (arith, x.row_is, in_level.1))
             place (Struct s) x =
-                (spot s x.0, omega (arith, x.0.row_is, in-level.1), level_is, ap (λ (j : ℕ). (row_at types j).kind) x.0.row_is ∙ ap (λ (y : TypeRow). y.kind) type_is ∙ x.1, x.2)
+                (spot s x.0, omega (arith, x.0.row_is, in_level.1), level_is, ap (λ (j : ℕ). (row_at types j).kind) x.0.row_is ∙ ap (λ (y : TypeRow). y.kind) type_is ∙ x.1, x.2)

@@ -70,14 +70,14 @@ module _ (t : Table) (room : ℕ) (cells : List ℕ) (fits : Bool) (k : Checked 
   admitted_table e d = rw d (record { reads = λ p. rw (sym k.answer ∙ e); fine = λ z. absurd (omega (arith, z)) })
 
   module _ (e : fits ≡ true) where
-    pub admitted-room : room < t.count → a ≡ record { why = Room; filled = 0 } → Admitted t room cells a
+    pub admitted_room : room < t.count → a ≡ record { why = Room; filled = 0 } → Admitted t room cells a
     unfolding reading_of
-    admitted-room h d =
+    admitted_room h d =
         rw d (record { reads = λ p. rw (sym k.answer ∙ e, lt-ltb room t.count h); fine = λ z. absurd (omega (arith, z)) })
 
-    pub admitted-fine : t.count ≤ room → a ≡ record { why = Accepted; filled = t.count } → Admitted t room cells a
+    pub admitted_fine : t.count ≤ room → a ≡ record { why = Accepted; filled = t.count } → Admitted t room cells a
     unfolding reading_of
-    admitted-fine h d =
+    admitted_fine h d =
         let f = k.filled e in
         rw d
         (record {

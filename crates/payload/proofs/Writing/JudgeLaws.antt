@@ -40,28 +40,28 @@ module _ (buf cells : List ℕ) (rows : List Row) (n : ℕ) where
   })
 
   module _ (nums sizes : List ℕ) (upto i : ℕ) (inv : Judging buf cells rows n nums sizes upto i) where
-    pub judging-end : n ≤ i → Fine ≡ judged_of buf (table_in n cells) rows
+    pub judging_end : n ≤ i → Fine ≡ judged_of buf (table_in n cells) rows
     unfolding judged_from
-    judging-end h = rw (rows_end cells n i h) at inv.answer
+    judging_end h = rw (rows_end cells n i h) at inv.answer
 
     module _ (few : n ≤ 64) (held : n ≤ length rows) (h : i < n) where
       abbrev here : Row
       here = get_or rows i absent_row
 
-      pub judging-outside : outside (length buf) here.value ≡ true → Outside ≡ judged_of buf (table_in n cells) rows
+      pub judging_outside : outside (length buf) here.value ≡ true → Outside ≡ judged_of buf (table_in n cells) rows
       unfolding judged_from
-      judging-outside e = rw (rows_here cells n i h, drop-cons rows i absent_row (omega arith), e) at inv.answer
+      judging_outside e = rw (rows_here cells n i h, drop-cons rows i absent_row (omega arith), e) at inv.answer
 
       module _ (e : outside (length buf) here.value ≡ false) where
-        pub judging-unfit : row_fine buf upto (row_in (get_or cells i 0)) here ≡ false → Unfit ≡ judged_of buf (table_in n cells) rows
+        pub judging_unfit : row_fine buf upto (row_in (get_or cells i 0)) here ≡ false → Unfit ≡ judged_of buf (table_in n cells) rows
         unfolding judged_from
-        judging-unfit f = rw (rows_here cells n i h, drop-cons rows i absent_row (omega arith), e, f) at inv.answer
+        judging_unfit f = rw (rows_here cells n i h, drop-cons rows i absent_row (omega arith), e, f) at inv.answer
 
-        pub judging-next : row_fine buf upto (row_in (get_or cells i 0)) here ≡ true → length buf < 9223372036854775808
+        pub judging_next : row_fine buf upto (row_in (get_or cells i 0)) here ≡ true → length buf < 9223372036854775808
             → (u : ℕ) → u ≡ up_after upto (row_in (get_or cells i 0)) here → (k : Held) → k ≡ held_of (kind_in (get_or cells i 0)) here.value here.bits
             → Judging buf cells rows n (set nums i k.num) (set sizes i k.size) u (i + 1)
         unfolding judged_from
-        judging-next f short u eu k ek = record {
+        judging_next f short u eu k ek = record {
           at_most = omega arith;
           long_nums = simp length-set inv.long_nums;
           long_sizes = simp length-set inv.long_sizes;

@@ -20,7 +20,7 @@ use Rattle.payload.specs.Parts.{under, wide_under}
 use Rattle.payload.specs.Columns.{part_in, parts_in}
 use Rattle.payload.specs.Sizes.{field_top, own_len, inner_in, whole_of, whole_in, Below, summed, sums_of, Columns, rest_in, whole_at, sized_is, Measured}
 use Rattle.payload.proofs.Joined.{clash}
-use Rattle.payload.proofs.Writing.SizeLaws.{wide-piece, sums-more, sums_none, inner_sums}
+use Rattle.payload.proofs.Writing.SizeLaws.{wide_piece, sums_more, sums_none, inner_sums}
 
 -- ---- the rows that are left
 
@@ -138,7 +138,7 @@ module _ (w n : ℕ) (cells before : List ℕ) where
           rw (
             rest_more ws buf cells nums before n m h,
             le-ltb (level_in (get_or cells m 0)) 1 (k.level m h),
-            wide-piece w ws k.wires (get_or cells m 0) (k.fine m h) buf (get_or nums m 0) (get_or before m 0) (k.kept m h)
+            wide_piece w ws k.wires (get_or cells m 0) (k.fine m h) buf (get_or nums m 0) (get_or before m 0) (k.kept m h)
                 (length (under w (suc (level_in (get_or cells m 0))) (rest (suc m)))),
           )
 
@@ -152,10 +152,10 @@ module _ (w n : ℕ) (cells before : List ℕ) where
     wide_back (suc i) h e = wide_back i (omega arith) (wide_row i h ∙ rw e (or_true (ltb (field_top w) (whole_at w ws buf cells nums before n i))))
 
   module _ (sizes : List ℕ) (s : Sums) (i : ℕ) (inv : Sizing sizes s i) where
-    pub sizing-end : i ≤ 0 → (ws : ℕ) (buf nums : List ℕ) → Columns w ws n buf cells nums before
+    pub sizing_end : i ≤ 0 → (ws : ℕ) (buf nums : List ℕ) → Columns w ws n buf cells nums before
         → Measured w ws n buf cells nums before sizes (Total s.one)
     unfolding sums_of
-    sizing-end none ws buf nums k =
+    sizing_end none ws buf nums k =
         let z : i ≡ 0 = omega arith in
         let t = inv.turned ws buf nums k in
         let first : n - 0 ≡ n = omega arith in record {
@@ -170,17 +170,17 @@ module _ (w n : ℕ) (cells before : List ℕ) where
       next : suc m ≡ i
       next = omega arith
 
-      own-size : get_or sizes m 0 ≡ get_or before m 0
-      own-size = inv.same m (omega arith)
+      own_size : get_or sizes m 0 ≡ get_or before m 0
+      own_size = inv.same m (omega arith)
 
       all_is : (ws : ℕ) (buf nums : List ℕ) → Columns w ws n buf cells nums before → all ≡ whole_at w ws buf cells nums before n m
       all_is ws buf nums k =
           let t = inv.turned ws buf nums k in
-          e ∙ rw (own-size, t.sums, ← next) (ap (whole_of (get_or cells m 0) (get_or before m 0)) (held ws buf nums k m (omega (arith, inv.at_most))))
+          e ∙ rw (own_size, t.sums, ← next) (ap (whole_of (get_or cells m 0) (get_or before m 0)) (held ws buf nums k m (omega (arith, inv.at_most))))
 
-      pub sizing-wide : field_top w < all → (ws : ℕ) (buf nums after : List ℕ) → Columns w ws n buf cells nums before
+      pub sizing_wide : field_top w < all → (ws : ℕ) (buf nums after : List ℕ) → Columns w ws n buf cells nums before
           → Measured w ws n buf cells nums before after Wide
-      sizing-wide h ws buf nums after k =
+      sizing_wide h ws buf nums after k =
           let below : m < n = omega (arith, inv.at_most) in
           let first : n - 0 ≡ n = omega arith in
           let row : wide_under w 1 (rest_in ws buf cells nums before n m) ≡ true =
@@ -188,17 +188,17 @@ module _ (w n : ℕ) (cells before : List ℕ) where
           let wide : wide_under w 1 (parts_in ws buf cells nums before n 0) ≡ true = rw first at (wide_back ws buf nums k m (omega arith) row) in
           record { answer = rw wide; whole = λ total q j h. clash (cc) }
 
-      pub sizing-own : all ≤ field_top w → own_len w (get_or cells m 0) (get_or sizes m 0) < row_most
-      sizing-own h = own_most w (get_or cells m 0) (get_or sizes m 0) (inner_in s (level_in (get_or cells m 0))) few (omega (arith, e, top_most w))
+      pub sizing_own : all ≤ field_top w → own_len w (get_or cells m 0) (get_or sizes m 0) < row_most
+      sizing_own h = own_most w (get_or cells m 0) (get_or sizes m 0) (inner_in s (level_in (get_or cells m 0))) few (omega (arith, e, top_most w))
 
-      pub sizing-next : all ≤ field_top w → (own level : ℕ) → own ≡ own_len w (get_or cells m 0) (get_or sizes m 0) → level ≡ level_in (get_or cells m 0)
+      pub sizing_next : all ≤ field_top w → (own level : ℕ) → own ≡ own_len w (get_or cells m 0) (get_or sizes m 0) → level ≡ level_in (get_or cells m 0)
           → (r : Sums) → r ≡ summed level own s → Sizing (set sizes m all) r m
-      sizing-next h own level eo el r er = rw er (record {
+      sizing_next h own level eo el r er = rw er (record {
         at_most = omega (arith, inv.at_most);
         long = simp length-set inv.long;
         room =
             below_le (1 + (n - i) * row_most + row_most) (1 + (n - m) * row_most) (summed level own s) (omega (arith, inv.at_most))
-            (more_below (1 + (n - i) * row_most) own level s inv.room (rw eo (sizing-own h)));
+            (more_below (1 + (n - i) * row_most) own level s inv.room (rw eo (sizing_own h)));
         same = λ j q. get_or-set_other sizes m j all 0 (λ z. omega arith) ∙ inv.same j (omega arith);
         turned = λ ws buf nums k. turn ws buf nums k;
       })
@@ -210,8 +210,8 @@ module _ (w n : ℕ) (cells before : List ℕ) where
           turn ws buf nums k =
               let t = inv.turned ws buf nums k in record {
                 sums =
-                    rw (eo, el, own-size, t.sums, ← next, rest_more ws buf cells nums before n m below)
-                    (sym (sums-more w ws k.wires (get_or cells m 0) (k.fine m below) buf (get_or nums m 0) (get_or before m 0) (k.kept m below)
+                    rw (eo, el, own_size, t.sums, ← next, rest_more ws buf cells nums before n m below)
+                    (sym (sums_more w ws k.wires (get_or cells m 0) (k.fine m below) buf (get_or nums m 0) (get_or before m 0) (k.kept m below)
                     (rest_in ws buf cells nums before n (suc m)) (k.level m below)));
                 narrow =
                     wide_row ws buf nums k m below ∙ rw (← all_is ws buf nums k, le-ltb (field_top w) all h, next) t.narrow;

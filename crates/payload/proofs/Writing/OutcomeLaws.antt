@@ -27,7 +27,7 @@ use Rattle.payload.specs.Writing.{run_wire, parts_of, nested, some_wide, Outcome
 use Rattle.payload.specs.Sizes.{Wires, Ready, fitted_of}
 use Rattle.payload.proofs.Joined.{and_left, and_right}
 use Rattle.payload.proofs.Rules.CellLaws.{row_at_lem, table_length}
-use Rattle.payload.proofs.Rules.RowLaws.{fits-rules}
+use Rattle.payload.proofs.Rules.RowLaws.{fits_rules}
 use Rattle.payload.proofs.Rules.CheckLaws.{Tests, fits_tests}
 
 -- ---- an answer and an output settle an outcome
@@ -103,13 +103,13 @@ module _ (rows : List Row) (room : ℕ) (t : Table) (buf : List ℕ) (space : �
 rows_level : (most : ℕ) (rs : List TypeRow) → rows_fit most rs ≡ true → (i : ℕ) → i < length rs → 1 ≤ (get_or rs i no_row).level
 unfolding rows_fit
 rows_level most [] e i h = absurd (omega arith)
-rows_level most (r ∷ rs) e zero h = (fits-rules r most (and_left (row_fits most r) (rows_fit (level_most r) rs) e)).0.level_least
+rows_level most (r ∷ rs) e zero h = (fits_rules r most (and_left (row_fits most r) (rows_fit (level_most r) rs) e)).0.level_least
 rows_level most (r ∷ rs) e (suc i) h = rows_level (level_most r) rs (and_right (row_fits most r) (rows_fit (level_most r) rs) e) i (omega arith)
 
 first_level : (rs : List TypeRow) → rows_fit 1 rs ≡ true → 0 < length rs → (get_or rs 0 no_row).level ≤ 1
 unfolding rows_fit
 first_level [] e h = absurd (omega arith)
-first_level (r ∷ rs) e h = (fits-rules r 1 (and_left (row_fits 1 r) (rows_fit (level_most r) rs) e)).1
+first_level (r ∷ rs) e h = (fits_rules r 1 (and_left (row_fits 1 r) (rows_fit (level_most r) rs) e)).1
 
 wires_one : (fixed : Bool) → Wires 1 (run_wire 1 fixed)
 unfolding run_wire

@@ -72,16 +72,16 @@ module _ (buf : List ℕ) (r : TypeRow) where
     size_less : (m : ℕ) → n + m - m ≡ n
     size_less m = omega arith
 
-    run-put : (k size : ℕ) (c : List ℕ) → (k < 12 → ⊥) → (k ≡ struct → ⊥) → 0 < size
+    run_put : (k size : ℕ) (c : List ℕ) → (k < 12 → ⊥) → (k ≡ struct → ⊥) → 0 < size
         → pick (eqb k string) (string_bytes (run_of buf q (size - 5))) (run_of buf q (size - 1)) ≡ c → put_in buf k q size ≡ leaf c
     unfolding put_in
-    run-put k size c a b some e =
+    run_put k size c a b some e =
         rw (ne_eqb size 0 (λ z. omega arith), le-ltb k 12 (omega (arith, a)), ne_eqb k struct b) (ap leaf e)
 
-    text-packed : (bits : ℕ) → r.kind ≡ string → Packed buf r (Bytes q n) bits q (n + 5)
+    text_packed : (bits : ℕ) → r.kind ≡ string → Packed buf r (Bytes q n) bits q (n + 5)
     unfolding put_of
-    text-packed bits k = record {
-      put = run-put r.kind (n + 5) _ (λ h. omega arith) (λ h. omega arith) (omega arith) (rw (k, size_less 5));
+    text_packed bits k = record {
+      put = run_put r.kind (n + 5) _ (λ h. omega arith) (λ h. omega arith) (omega arith) (rw (k, size_less 5));
       kept = record {
         number = λ h. absurd (omega arith);
         text = λ d h. omega arith;
@@ -91,10 +91,10 @@ module _ (buf : List ℕ) (r : TypeRow) where
       small = omega arith;
     }
 
-    array-packed : (bits : ℕ) → r.kind ≡ array → Packed buf r (Bytes q n) bits q (n + 1)
+    array_packed : (bits : ℕ) → r.kind ≡ array → Packed buf r (Bytes q n) bits q (n + 1)
     unfolding put_of
-    array-packed bits k = record {
-      put = run-put r.kind (n + 1) _ (λ h. omega arith) (λ h. omega arith) (omega arith) (rw (k, size_less 1));
+    array_packed bits k = record {
+      put = run_put r.kind (n + 1) _ (λ h. omega arith) (λ h. omega arith) (omega arith) (rw (k, size_less 1));
       kept = record {
         number = λ h. absurd (omega arith);
         text = λ d h. absurd (omega arith);
@@ -144,8 +144,8 @@ module _ (buf : List ℕ) (r : TypeRow) where
 
       go : (b : Bool) → eqb r.kind string ≡ b → pick b (text_fits (run_of buf q n)) (and (eqb r.kind array) (eqb (n % size_of r.elem) 0)) ≡ true
           → Packed buf r (Bytes q n) bits q (pick (eqb r.kind string) (n + 5) (n + 1))
-      go true eb e = rw eb (text-packed q n inside l bits (eqb-true r.kind string eb))
-      go false eb e = rw eb (array-packed q n inside l bits (eqb-true r.kind array (and_left _ _ e)))
+      go true eb e = rw eb (text_packed q n inside l bits (eqb-true r.kind string eb))
+      go false eb e = rw eb (array_packed q n inside l bits (eqb-true r.kind array (and_left _ _ e)))
   value_packed Members bits o l e =
       let k = eqb-true r.kind struct e in
       record { put = rw k; kept = nothing_kept 0 1 r.kind refl (omega arith) (λ d. absurd (omega arith)); small = omega arith }

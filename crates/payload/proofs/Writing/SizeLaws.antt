@@ -70,10 +70,10 @@ module _ (w cell size : ℕ) (some : size ≡ 0 → ⊥) where
 -- ---- a row's tag
 
 module _ (w ws : ℕ) (wires : Wires w ws) (cell : ℕ) (fine : FineRow (row_in cell)) where
-  abbrev pub tagIn : ℕ
-  tagIn = tag_for ws (row_in cell)
+  abbrev pub tag_in : ℕ
+  tag_in = tag_for ws (row_in cell)
 
-  pub tag_number : kind_in cell < 12 → ltb (wire_of tagIn) 4 ≡ true
+  pub tag_number : kind_in cell < 12 → ltb (wire_of tag_in) 4 ≡ true
   unfolding tag_for
   tag_number h =
       let few = number_wire (kind_in cell) fine.kind_some h in
@@ -81,42 +81,42 @@ module _ (w ws : ℕ) (wires : Wires w ws) (cell : ℕ) (fine : FineRow (row_in 
       ≡ (kind_at (kind_in cell)).wire = tag_wire 0 (kind_at (kind_in cell)).wire (ident_in cell) (omega arith) (omega arith) fine.ident_in_lem in
       rw (lt-ltb (kind_in cell) 12 h, e) (lt-ltb (kind_at (kind_in cell)).wire 4 (few))
 
-  pub tag_run : 12 ≤ kind_in cell → wire_of tagIn ≡ ws
+  pub tag_run : 12 ≤ kind_in cell → wire_of tag_in ≡ ws
   unfolding tag_for
   tag_run h = rw (le-ltb (kind_in cell) 12 h) (tag_wire 0 ws (ident_in cell) (omega arith) wires.most fine.ident_in_lem)
 
-  field_run : 12 ≤ kind_in cell → (n : ℕ) → field_bytes w (wire_of tagIn) n ≡ number_bytes big w n
+  field_run : 12 ≤ kind_in cell → (n : ℕ) → field_bytes w (wire_of tag_in) n ≡ number_bytes big w n
   unfolding field_bytes
   field_run h n = rw (tag_run h, le-ltb ws 4 wires.least, wires.field)
 
-  wide_run : 12 ≤ kind_in cell → (n : ℕ) → too_wide w tagIn n ≡ leb (field_top w) n
+  wide_run : 12 ≤ kind_in cell → (n : ℕ) → too_wide w tag_in n ≡ leb (field_top w) n
   wide_run h n = rw (tag_run h, le-leb 4 ws wires.least, wires.field, wires.top)
 
-  wide_number : kind_in cell < 12 → (n : ℕ) → too_wide w tagIn n ≡ false
-  wide_number h n = rw (lt-leb 4 (wire_of tagIn) (ltb-true (wire_of tagIn) 4 (tag_number h)))
+  wide_number : kind_in cell < 12 → (n : ℕ) → too_wide w tag_in n ≡ false
+  wide_number h n = rw (lt-leb 4 (wire_of tag_in) (ltb-true (wire_of tag_in) 4 (tag_number h)))
 
   module _ (buf : List ℕ) (num size : ℕ) (kept : Kept buf (kind_in cell) num size) where
     -- ---- what a row puts, case by case
 
-    pub put-none : size ≡ 0 → put_in buf (kind_in cell) num size ≡ nothing
+    pub put_none : size ≡ 0 → put_in buf (kind_in cell) num size ≡ nothing
     unfolding put_in
-    put-none e = rw e
+    put_none e = rw e
 
     module _ (some : 0 < size) where
       not_none : eqb size 0 ≡ false
       not_none = ne_eqb size 0 (λ z. omega arith)
 
-      pub put-number : kind_in cell < 12 → put_in buf (kind_in cell) num size ≡ leaf (number_bytes big (size - 1) num)
+      pub put_number : kind_in cell < 12 → put_in buf (kind_in cell) num size ≡ leaf (number_bytes big (size - 1) num)
       unfolding put_in
-      put-number h = rw (not_none, lt-ltb (kind_in cell) 12 h)
+      put_number h = rw (not_none, lt-ltb (kind_in cell) 12 h)
 
-      pub put-branch : kind_in cell ≡ struct → put_in buf (kind_in cell) num size ≡ branch
+      pub put_branch : kind_in cell ≡ struct → put_in buf (kind_in cell) num size ≡ branch
       unfolding put_in
-      put-branch k = rw (not_none, le-ltb (kind_in cell) 12 (omega arith), eq-eqb (kind_in cell) struct k)
+      put_branch k = rw (not_none, le-ltb (kind_in cell) 12 (omega arith), eq-eqb (kind_in cell) struct k)
 
-      pub put-run : 12 ≤ kind_in cell → (kind_in cell ≡ struct → ⊥) → put_in buf (kind_in cell) num size ≡ leaf (content_in buf (kind_in cell) num size)
+      pub put_run : 12 ≤ kind_in cell → (kind_in cell ≡ struct → ⊥) → put_in buf (kind_in cell) num size ≡ leaf (content_in buf (kind_in cell) num size)
       unfolding put_in
-      put-run h k = rw (not_none, le-ltb (kind_in cell) 12 h, ne_eqb (kind_in cell) struct k)
+      put_run h k = rw (not_none, le-ltb (kind_in cell) 12 h, ne_eqb (kind_in cell) struct k)
 
       pub length_content : 12 ≤ kind_in cell → (kind_in cell ≡ struct → ⊥) → length (content_in buf (kind_in cell) num size) ≡ size - 1
       length_content h k = go (eqb (kind_in cell) string) refl
@@ -132,73 +132,73 @@ module _ (w ws : ℕ) (wires : Wires w ws) (cell : ℕ) (fine : FineRow (row_in 
 
       -- ---- its bytes, case by case
 
-      pub piece-number : (n : ℕ) → kind_in cell < 12 → piece w tagIn (put_in buf (kind_in cell) num size) n
-          ≡ number_bytes big 2 tagIn ++ number_bytes big (size - 1) num
+      pub piece_number : (n : ℕ) → kind_in cell < 12 → piece w tag_in (put_in buf (kind_in cell) num size) n
+          ≡ number_bytes big 2 tag_in ++ number_bytes big (size - 1) num
       unfolding piece member_bytes field_bytes
-      piece-number n h = rw (put-number h, tag_number h)
+      piece_number n h = rw (put_number h, tag_number h)
 
-      pub piece-branch : (n : ℕ) → kind_in cell ≡ struct → piece w tagIn (put_in buf (kind_in cell) num size) n
-          ≡ number_bytes big 2 tagIn ++ number_bytes big w n
+      pub piece_branch : (n : ℕ) → kind_in cell ≡ struct → piece w tag_in (put_in buf (kind_in cell) num size) n
+          ≡ number_bytes big 2 tag_in ++ number_bytes big w n
       unfolding piece
-      piece-branch n k = rw (put-branch k, field_run (omega arith) n)
+      piece_branch n k = rw (put_branch k, field_run (omega arith) n)
 
-      pub piece-run : (n : ℕ) → 12 ≤ kind_in cell → (kind_in cell ≡ struct → ⊥)
-          → piece w tagIn (put_in buf (kind_in cell) num size) n ≡ number_bytes big 2 tagIn ++
+      pub piece_run : (n : ℕ) → 12 ≤ kind_in cell → (kind_in cell ≡ struct → ⊥)
+          → piece w tag_in (put_in buf (kind_in cell) num size) n ≡ number_bytes big 2 tag_in ++
           (number_bytes big w (size - 1) ++ content_in buf (kind_in cell) num size)
       unfolding piece member_bytes
-      piece-run n h k = rw (put-run h k, length_content h k, field_run h (size - 1))
+      piece_run n h k = rw (put_run h k, length_content h k, field_run h (size - 1))
 
-    pub piece-none : (n : ℕ) → size ≡ 0 → piece w tagIn (put_in buf (kind_in cell) num size) n ≡ []
+    pub piece_none : (n : ℕ) → size ≡ 0 → piece w tag_in (put_in buf (kind_in cell) num size) n ≡ []
     unfolding piece
-    piece-none n e = rw (put-none e)
+    piece_none n e = rw (put_none e)
 
     -- a struct's length field tells what is kept of its size
-    pub piece-same : (n : ℕ) → size ≡ whole_of cell size n → piece w tagIn (put_in buf (kind_in cell) num size) n
-        ≡ piece w tagIn (put_in buf (kind_in cell) num size) (size - 1)
+    pub piece_same : (n : ℕ) → size ≡ whole_of cell size n → piece w tag_in (put_in buf (kind_in cell) num size) n
+        ≡ piece w tag_in (put_in buf (kind_in cell) num size) (size - 1)
     unfolding whole_of
-    piece-same n e = go (eqb size 0) (ltb (kind_in cell) 12) (eqb (kind_in cell) struct) refl refl refl e
+    piece_same n e = go (eqb size 0) (ltb (kind_in cell) 12) (eqb (kind_in cell) struct) refl refl refl e
       where
         go : (a b d : Bool) → eqb size 0 ≡ a → ltb (kind_in cell) 12 ≡ b → eqb (kind_in cell) struct ≡ d → size ≡ pick a 0 (pick d (n + 1) size)
-            → piece w tagIn (put_in buf (kind_in cell) num size) n ≡ piece w tagIn (put_in buf (kind_in cell) num size) (size - 1)
-        go true b d ea eb ed e = piece-none n (eqb-true size 0 ea) ∙ sym (piece-none (size - 1) (eqb-true size 0 ea))
+            → piece w tag_in (put_in buf (kind_in cell) num size) n ≡ piece w tag_in (put_in buf (kind_in cell) num size) (size - 1)
+        go true b d ea eb ed e = piece_none n (eqb-true size 0 ea) ∙ sym (piece_none (size - 1) (eqb-true size 0 ea))
         go false true d ea eb ed e =
             let some : 0 < size = omega (arith, eqb-false size 0 ea) in
             let h = ltb-true (kind_in cell) 12 eb in
-            piece-number some n h ∙ sym (piece-number some (size - 1) h)
-        go false false true ea eb ed e = let m : n ≡ size - 1 = omega arith in ap (piece w tagIn (put_in buf (kind_in cell) num size)) m
+            piece_number some n h ∙ sym (piece_number some (size - 1) h)
+        go false false true ea eb ed e = let m : n ≡ size - 1 = omega arith in ap (piece w tag_in (put_in buf (kind_in cell) num size)) m
         go false false false ea eb ed e =
             let some : 0 < size = omega (arith, eqb-false size 0 ea) in
             let h = ltb-false (kind_in cell) 12 eb in
             let k = eqb-false (kind_in cell) struct ed in
-            piece-run some n h k ∙ sym (piece-run some (size - 1) h k)
+            piece_run some n h k ∙ sym (piece_run some (size - 1) h k)
 
     -- ---- how many they are, and whether the content is too wide
 
-    pub length-piece : (n : ℕ) → length (piece w tagIn (put_in buf (kind_in cell) num size) n) ≡ own_len w cell size
+    pub length_piece : (n : ℕ) → length (piece w tag_in (put_in buf (kind_in cell) num size) n) ≡ own_len w cell size
     unfolding own_len
-    length-piece n = go (eqb size 0) (ltb (kind_in cell) 12) (eqb (kind_in cell) struct) refl refl refl
+    length_piece n = go (eqb size 0) (ltb (kind_in cell) 12) (eqb (kind_in cell) struct) refl refl refl
       where
         go : (a b d : Bool) → eqb size 0 ≡ a → ltb (kind_in cell) 12 ≡ b → eqb (kind_in cell) struct ≡ d
-            → length (piece w tagIn (put_in buf (kind_in cell) num size) n) ≡ pick a 0 (pick b (size + 1) (pick d (w + 2) (w + size + 1)))
-        go true b d ea eb ed = ap length (piece-none n (eqb-true size 0 ea))
+            → length (piece w tag_in (put_in buf (kind_in cell) num size) n) ≡ pick a 0 (pick b (size + 1) (pick d (w + 2) (w + size + 1)))
+        go true b d ea eb ed = ap length (piece_none n (eqb-true size 0 ea))
         go false true d ea eb ed =
             let some : 0 < size = omega (arith, eqb-false size 0 ea) in
-            rw (piece-number some n (ltb-true (kind_in cell) 12 eb)) (simp (length-append, length_number_bytes) (omega arith))
+            rw (piece_number some n (ltb-true (kind_in cell) 12 eb)) (simp (length-append, length_number_bytes) (omega arith))
         go false false true ea eb ed =
             let some : 0 < size = omega (arith, eqb-false size 0 ea) in
-            rw (piece-branch some n (eqb-true (kind_in cell) struct ed)) (simp (length-append, length_number_bytes) (omega arith))
+            rw (piece_branch some n (eqb-true (kind_in cell) struct ed)) (simp (length-append, length_number_bytes) (omega arith))
         go false false false ea eb ed =
             let some : 0 < size = omega (arith, eqb-false size 0 ea) in
             let h = ltb-false (kind_in cell) 12 eb in
             let k = eqb-false (kind_in cell) struct ed in
-            rw (piece-run some n h k) (simp (length-append, length_number_bytes) (omega (arith, length_content some h k)))
+            rw (piece_run some n h k) (simp (length-append, length_number_bytes) (omega (arith, length_content some h k)))
 
-    pub wide-piece : (n : ℕ) → wide_here w tagIn (put_in buf (kind_in cell) num size) n ≡ ltb (field_top w) (whole_of cell size n)
+    pub wide_piece : (n : ℕ) → wide_here w tag_in (put_in buf (kind_in cell) num size) n ≡ ltb (field_top w) (whole_of cell size n)
     unfolding whole_of wide_here
-    wide-piece n = go (eqb size 0) (eqb (kind_in cell) struct) (ltb (kind_in cell) 12) refl refl refl
+    wide_piece n = go (eqb size 0) (eqb (kind_in cell) struct) (ltb (kind_in cell) 12) refl refl refl
       where
-        some-top : 10 ≤ field_top w
-        some-top = top (eqb w 1) (eqb w 2)
+        some_top : 10 ≤ field_top w
+        some_top = top (eqb w 1) (eqb w 2)
           where
             top : (a b : Bool) → 10 ≤ pick a 256 (pick b 65536 4294967296)
             top true b = omega arith
@@ -213,44 +213,44 @@ module _ (w ws : ℕ) (wires : Wires w ws) (cell : ℕ) (fine : FineRow (row_in 
             more false e = sym (le-ltb t (m + 1) (omega (arith, leb-false t m e)))
 
         go : (a b d : Bool) → eqb size 0 ≡ a → eqb (kind_in cell) struct ≡ b → ltb (kind_in cell) 12 ≡ d
-            → wide_here w tagIn (put_in buf (kind_in cell) num size) n ≡ ltb (field_top w) (pick a 0 (pick b (n + 1) size))
-        go true b d ea eb ed = rw (put-none (eqb-true size 0 ea), le-ltb (field_top w) 0 (omega arith))
+            → wide_here w tag_in (put_in buf (kind_in cell) num size) n ≡ ltb (field_top w) (pick a 0 (pick b (n + 1) size))
+        go true b d ea eb ed = rw (put_none (eqb-true size 0 ea), le-ltb (field_top w) 0 (omega arith))
         go false true d ea eb ed =
             let some : 0 < size = omega (arith, eqb-false size 0 ea) in
             let k = eqb-true (kind_in cell) struct eb in
-            rw (put-branch some k) (wide_run (omega arith) n ∙ one_more (field_top w) n)
+            rw (put_branch some k) (wide_run (omega arith) n ∙ one_more (field_top w) n)
         go false false true ea eb ed =
             let some : 0 < size = omega (arith, eqb-false size 0 ea) in
             let h = ltb-true (kind_in cell) 12 ed in
-            rw (put-number some h, le-ltb (field_top w) size (omega (arith, kept.number h, some-top))) (wide_number h _)
+            rw (put_number some h, le-ltb (field_top w) size (omega (arith, kept.number h, some_top))) (wide_number h _)
         go false false false ea eb ed =
             let some : 0 < size = omega (arith, eqb-false size 0 ea) in
             let h = ltb-false (kind_in cell) 12 ed in
             let k = eqb-false (kind_in cell) struct eb in
             let e : size - 1 + 1 ≡ size = omega arith in
-            rw (put-run some h k, length_content some h k) (wide_run h (size - 1) ∙ one_more (field_top w) (size - 1) ∙ ap (ltb (field_top w)) e)
+            rw (put_run some h k, length_content some h k) (wide_run h (size - 1) ∙ one_more (field_top w) (size - 1) ∙ ap (ltb (field_top w)) e)
 
     -- ---- the sums, with one row more in front
 
     abbrev own : Part
     own = part_in ws buf cell num size
 
-    length-under : (l : ℕ) (ps : List Part) → length (under w l (own ∷ ps))
+    length_under : (l : ℕ) (ps : List Part) → length (under w l (own ∷ ps))
         ≡ pick (ltb (level_in cell) l) 0 (own_len w cell size + length (under w l ps))
     unfolding under
-    length-under l ps = go (ltb (level_in cell) l)
+    length_under l ps = go (ltb (level_in cell) l)
       where
-        go : (a : Bool) → length (pick a [] (piece w tagIn (put_in buf (kind_in cell) num size) (length (under w (suc (level_in cell)) ps)) ++ under w
+        go : (a : Bool) → length (pick a [] (piece w tag_in (put_in buf (kind_in cell) num size) (length (under w (suc (level_in cell)) ps)) ++ under w
             l ps))
             ≡ pick a 0 (own_len w cell size + length (under w l ps))
         go true = refl
         go false =
-            length-append (piece w tagIn (put_in buf (kind_in cell) num size) (length (under w (suc (level_in cell)) ps))) (under w l ps)
-            ∙ ap (◌+ length (under w l ps)) (length-piece (length (under w (suc (level_in cell)) ps)))
+            length-append (piece w tag_in (put_in buf (kind_in cell) num size) (length (under w (suc (level_in cell)) ps))) (under w l ps)
+            ∙ ap (◌+ length (under w l ps)) (length_piece (length (under w (suc (level_in cell)) ps)))
 
-    pub sums-more : (ps : List Part) → 0 < level_in cell → sums_of w (own ∷ ps) ≡ summed (level_in cell) (own_len w cell size) (sums_of w ps)
+    pub sums_more : (ps : List Part) → 0 < level_in cell → sums_of w (own ∷ ps) ≡ summed (level_in cell) (own_len w cell size) (sums_of w ps)
     unfolding sums_of
-    sums-more ps h = rw (length-under 1 ps, length-under 2 ps, length-under 3 ps, length-under 4 ps, le-ltb (level_in cell) 1 h)
+    sums_more ps h = rw (length_under 1 ps, length_under 2 ps, length_under 3 ps, length_under 4 ps, le-ltb (level_in cell) 1 h)
 
 pub sums_none : (w : ℕ) → sums_of w [] ≡ record { one = 0; two = 0; three = 0; four = 0 }
 unfolding sums_of under

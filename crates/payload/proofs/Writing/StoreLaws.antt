@@ -15,7 +15,7 @@ use Rattle.payload.specs.Writing.{tag_for}
 use Rattle.payload.specs.Parts.{piece, under}
 use Rattle.payload.specs.Columns.{put_in}
 use Rattle.payload.specs.Sizes.{own_len, Columns, rest_in, whole_at}
-use Rattle.payload.proofs.Writing.SizeLaws.{length_run, length-piece, piece-same}
+use Rattle.payload.proofs.Writing.SizeLaws.{length_run, length_piece, piece_same}
 use Rattle.payload.proofs.Writing.MeasureLaws.{rest_more, rest_end}
 
 -- mark, text, terminator
@@ -39,33 +39,33 @@ text_store l buf at place len h =
 
 module _ (w ws : ℕ) (buf cells nums sizes : List ℕ) (n : ℕ) (k : Columns w ws n buf cells nums sizes)
     (whole : (i : ℕ) → i < n → get_or sizes i 0 ≡ whole_at w ws buf cells nums sizes n i) where
-  abbrev pub bytesFrom : ℕ → List ℕ
-  bytesFrom i = under w 1 (rest_in ws buf cells nums sizes n i)
+  abbrev pub bytes_from : ℕ → List ℕ
+  bytes_from i = under w 1 (rest_in ws buf cells nums sizes n i)
 
   module _ (i : ℕ) (h : i < n) where
     abbrev pub piece_at : List ℕ
     piece_at = piece w (tag_for ws (row_in (get_or cells i 0))) (put_in buf (kind_in (get_or cells i 0)) (get_or nums i 0) (get_or sizes i 0)) (get_or sizes i 0 - 1)
 
-    pub length-pieceAt : length piece_at ≡ own_len w (get_or cells i 0) (get_or sizes i 0)
-    length-pieceAt = length-piece w ws k.wires (get_or cells i 0) (k.fine i h) buf (get_or nums i 0) (get_or sizes i 0) (k.kept i h)
+    pub length_piece_at : length piece_at ≡ own_len w (get_or cells i 0) (get_or sizes i 0)
+    length_piece_at = length_piece w ws k.wires (get_or cells i 0) (k.fine i h) buf (get_or nums i 0) (get_or sizes i 0) (k.kept i h)
         (get_or sizes i 0 - 1)
 
-    pub bytes-more : bytesFrom i ≡ piece_at ++ bytesFrom (suc i)
+    pub bytes_more : bytes_from i ≡ piece_at ++ bytes_from (suc i)
     unfolding under
-    bytes-more =
+    bytes_more =
         rw (rest_more ws buf cells nums sizes n i h, le-ltb (level_in (get_or cells i 0)) 1 (k.level i h))
-        (ap (◌++ bytesFrom (suc i))
-        (piece-same w ws k.wires (get_or cells i 0) (k.fine i h) buf (get_or nums i 0) (get_or sizes i 0) (k.kept i h)
+        (ap (◌++ bytes_from (suc i))
+        (piece_same w ws k.wires (get_or cells i 0) (k.fine i h) buf (get_or nums i 0) (get_or sizes i 0) (k.kept i h)
         (length (under w (suc (level_in (get_or cells i 0))) (rest_in ws buf cells nums sizes n (suc i)))) (whole i h)))
 
-    pub row-length : length (bytesFrom i) ≡ own_len w (get_or cells i 0) (get_or sizes i 0) + length (bytesFrom (suc i))
-    row-length = ap length bytes-more ∙ length-append piece_at (bytesFrom (suc i)) ∙ ap (◌+ length (bytesFrom (suc i))) length-pieceAt
+    pub row_length : length (bytes_from i) ≡ own_len w (get_or cells i 0) (get_or sizes i 0) + length (bytes_from (suc i))
+    row_length = ap length bytes_more ∙ length-append piece_at (bytes_from (suc i)) ∙ ap (◌+ length (bytes_from (suc i))) length_piece_at
 
     -- a row's stores, and then those of the rows after it
-    pub row-store : (out : List ℕ) (at : ℕ) → sets (sets out at piece_at) (at + own_len w (get_or cells i 0) (get_or sizes i 0)) (bytesFrom (suc i))
-        ≡ sets out at (bytesFrom i)
-    row-store out at = rw (← length-pieceAt) (sym (sets_append piece_at (bytesFrom (suc i)) out at) ∙ ap (sets out at) (sym bytes-more))
+    pub row_store : (out : List ℕ) (at : ℕ) → sets (sets out at piece_at) (at + own_len w (get_or cells i 0) (get_or sizes i 0)) (bytes_from (suc i))
+        ≡ sets out at (bytes_from i)
+    row_store out at = rw (← length_piece_at) (sym (sets_append piece_at (bytes_from (suc i)) out at) ∙ ap (sets out at) (sym bytes_more))
 
-  pub bytes_end : (i : ℕ) → n ≤ i → bytesFrom i ≡ []
+  pub bytes_end : (i : ℕ) → n ≤ i → bytes_from i ≡ []
   unfolding under
   bytes_end i h = rw (rest_end ws buf cells nums sizes n i h)

@@ -166,17 +166,17 @@ module _ {w ws n : ℕ} {buf cells : List ℕ} {rows : List Row} {nums sizes aft
   sized_by b e = p.measured.answer ∙ rw (parts, e)
 
   -- what the writer's outcome is
-  abbrev pub passedOutcome : ℕ → Outcome
-  passedOutcome space = if_fine (judged_of buf (table_in n cells) rows) (sized_of w (nested 1 all) space)
+  abbrev pub passed_outcome : ℕ → Outcome
+  passed_outcome space = if_fine (judged_of buf (table_in n cells) rows) (sized_of w (nested 1 all) space)
 
-  outcome_fine : (space : ℕ) → passedOutcome space ≡ sized_of w (nested 1 all) space
+  outcome_fine : (space : ℕ) → passed_outcome space ≡ sized_of w (nested 1 all) space
   unfolding if_fine
   outcome_fine space = rw p.fine
 
-  pub passed_wide : (space : ℕ) → r ≡ Wide → passedOutcome space ≡ refused TooWide
+  pub passed_wide : (space : ℕ) → r ≡ Wide → passed_outcome space ≡ refused TooWide
   passed_wide space e = go (wide_under w 1 all) refl
     where
-      go : (b : Bool) → wide_under w 1 all ≡ b → passedOutcome space ≡ refused TooWide
+      go : (b : Bool) → wide_under w 1 all ≡ b → passed_outcome space ≡ refused TooWide
       go true eb = outcome_fine space ∙ sized_wide w (nested 1 all) space (sym tree_wide ∙ eb)
       go false eb = clash (let z = sized_by false eb in cc)
 
@@ -188,18 +188,18 @@ module _ {w ws n : ℕ} {buf cells : List ℕ} {rows : List Row} {nums sizes aft
         go true eb = clash (let z = sized_by true eb in cc)
         go false eb = refl
 
-    pub passed-columns : Columns w ws n buf cells nums after
-    passed-columns = columns_after w ws n buf cells nums sizes after columns (p.measured.whole total e)
+    pub passed_columns : Columns w ws n buf cells nums after
+    passed_columns = columns_after w ws n buf cells nums sizes after columns (p.measured.whole total e)
 
-    pub passed-whole : (i : ℕ) → i < n → get_or after i 0 ≡ whole_at w ws buf cells nums after n i
-    passed-whole = whole_after w ws n buf cells nums sizes after columns (p.measured.whole total e)
+    pub passed_whole : (i : ℕ) → i < n → get_or after i 0 ≡ whole_at w ws buf cells nums after n i
+    passed_whole = whole_after w ws n buf cells nums sizes after columns (p.measured.whole total e)
 
-    after-parts : parts_in ws buf cells nums after n 0 ≡ all
-    after-parts = parts_same w ws n buf cells nums sizes after columns (p.measured.whole total e) ∙ parts
+    after_parts : parts_in ws buf cells nums after n 0 ≡ all
+    after_parts = parts_same w ws n buf cells nums sizes after columns (p.measured.whole total e) ∙ parts
 
-    pub passed-total : total ≡ length (under w 1 (parts_in ws buf cells nums after n 0))
-    passed-total = let z = sized_by false narrow in rw after-parts (cc)
+    pub passed_total : total ≡ length (under w 1 (parts_in ws buf cells nums after n 0))
+    passed_total = let z = sized_by false narrow in rw after_parts (cc)
 
-    pub passed-fitted : (space : ℕ) → passedOutcome space ≡ fitted_of (under w 1 (parts_in ws buf cells nums after n 0)) space
-    passed-fitted space =
-        outcome_fine space ∙ sized_narrow w (nested 1 all) space (sym tree_wide ∙ narrow) ∙ rw (after-parts, tree_bytes)
+    pub passed_fitted : (space : ℕ) → passed_outcome space ≡ fitted_of (under w 1 (parts_in ws buf cells nums after n 0)) space
+    passed_fitted space =
+        outcome_fine space ∙ sized_narrow w (nested 1 all) space (sym tree_wide ∙ narrow) ∙ rw (after_parts, tree_bytes)

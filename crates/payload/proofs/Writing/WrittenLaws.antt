@@ -75,27 +75,27 @@ module _ (rows : List Row) (room : ℕ) (t : Table) (buf : List ℕ) where
 
   module _ (old : List ℕ) where
     -- an accepted writing: the payload, and then the old bytes from there on
-    pub accepts-output : Accepts rows room t buf (length old) → output_of rows room t buf old
+    pub accepts_output : Accepts rows room t buf (length old) → output_of rows room t buf old
         ≡ (payload_of t buf rows) ++ drop (length (payload_of t buf rows)) old
     unfolding output_of output_is
-    accepts-output a =
+    accepts_output a =
         rw (accepts_outcome (length old) a)
         (let h : 0 + length (payload_of t buf rows) ≤ length old = omega (arith, a.fits) in rw zero-add at (sets-eq (payload_of t buf rows) old 0 h))
 
     -- a refused writing changes no byte and has length 0
-    pub refused-kept : ((writing_of rows room t buf (length old)).verdict ≡ Accepted → ⊥)
+    pub refused_kept : ((writing_of rows room t buf (length old)).verdict ≡ Accepted → ⊥)
         → (output_of rows room t buf old ≡ old) × ((writing_of rows room t buf (length old)).len ≡ 0)
     unfolding writing_of output_of answer_is output_is
-    refused-kept = go (outcome_of rows room t buf (length old))
+    refused_kept = go (outcome_of rows room t buf (length old))
       where
         go : (o : Outcome) → ((answer_is o).verdict ≡ Accepted → ⊥) → (output_is old o ≡ old) × ((answer_is o).len ≡ 0)
         go (refused v) h = (refl, refl)
         go (done bytes) h = absurd (h refl)
 
     -- the output is as long as it was
-    pub length-output : length (output_of rows room t buf old) ≡ length old
+    pub length_output : length (output_of rows room t buf old) ≡ length old
     unfolding output_of output_is
-    length-output = go (outcome_of rows room t buf (length old))
+    length_output = go (outcome_of rows room t buf (length old))
       where
         go : (o : Outcome) → length (output_is old o) ≡ length old
         go (refused v) = refl
@@ -131,10 +131,10 @@ pub write_settled : WriteSettled
 write_settled rows room t buf old = record {
   meets = accepted_accepts rows room t buf (length old);
   answer = accepts_answer rows room t buf (length old);
-  output = accepts-output rows room t buf old;
-  kept = refused-kept rows room t buf old;
+  output = accepts_output rows room t buf old;
+  kept = refused_kept rows room t buf old;
   most = (written_most rows room t buf (length old)).0;
   within = (written_most rows room t buf (length old)).1;
-  same_length = length-output rows room t buf old;
+  same_length = length_output rows room t buf old;
   beyond = beyond_kept rows room t buf old;
 }

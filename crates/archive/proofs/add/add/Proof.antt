@@ -8,11 +8,11 @@ use Rattle.archive.proofs.AddLaws.{
   not_full,
   when_refused,
   when_stores,
-  add-records,
-  count-few,
-  add-no-message,
-  add-full,
-  add-over,
+  add_records,
+  count_few,
+  add_no_message,
+  add_full_lem,
+  add_over,
   add_stores,
   added_size,
 }
@@ -31,7 +31,7 @@ same_length c = search rules
 returns : tie.Need-returns
 returns c =
     let i = c.before in
-    when_refused _ _ (add-records _ _ _ i.before.before.walk.ensures (not-true _ i.if1.true) _) c.refuse.ensures
+    when_refused _ _ (add_records _ _ _ i.before.before.walk.ensures (not-true _ i.if1.true) _) c.refuse.ensures
 
 is-message-requires : tie.Need-is-message-requires
 is-message-requires c κs = search rules
@@ -47,7 +47,7 @@ returns-2 c =
     let m = c.before.before in
     let i = m.before in
     when_refused _ _
-    (add-no-message _ _ _ i.before.before.walk.ensures (not-false _ i.if1.false) _
+    (add_no_message _ _ _ i.before.before.walk.ensures (not-false _ i.if1.false) _
     (sym m.is-message.ensures ∙ not-true _ c.before.if2.true))
     c.refuse2.ensures
 
@@ -66,7 +66,7 @@ returns-3 c =
     let j = over.before.before in
     let i = j.before.before in
     when_refused _ _
-    (add-over _ _ _ i.before.before.walk.ensures (not-false _ i.if1.false) _
+    (add_over _ _ _ i.before.before.walk.ensures (not-false _ i.if1.false) _
     (sym j.before.is-message.ensures ∙ not-false _ j.if2.false)
     (rw over.before.limit.ensures at over.if3.true))
     c.refuse3.ensures
@@ -81,7 +81,7 @@ add-is-full : tie.Need-overflow-add-is-full
 add-is-full c =
     let over = c.before in
     let i = over.before.before.before.before in
-    let few = count-few _ _ _ i.before.before.walk.ensures (not-false _ i.if1.false) in
+    let few = count_few _ _ _ i.before.before.walk.ensures (not-false _ i.if1.false) in
     omega (arith, over.before.limit.ensures, over.if3.false)
 
 is-full-requires : tie.Need-is-full-requires
@@ -99,7 +99,7 @@ returns-4 c =
     let j = full.before.before.before.before in
     let i = j.before.before in
     when_refused _ _
-    (add-full _ _ _ i.before.before.walk.ensures (not-false _ i.if1.false) _
+    (add_full_lem _ _ _ i.before.before.walk.ensures (not-false _ i.if1.false) _
     (sym j.before.is-message.ensures ∙ not-false _ j.if2.false)
     (sym full.is-full.ensures ∙ c.before.if4.true))
     c.refuse4.ensures

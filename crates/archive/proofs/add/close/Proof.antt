@@ -7,14 +7,14 @@ use borrow.Author.Tests.{not-true, not-false}
 use Rattle.archive.proofs.AddLaws.{
   when_refused,
   when_stores,
-  close-records,
-  close-full,
+  close_records,
+  close_full_lem,
   close_stores,
-  index-room,
-  closing-stores,
+  index_room,
+  closing_stores,
   closed_size,
-  closing-few,
-  trailer-room,
+  closing_few,
+  trailer_room,
 }
 use Rattle.archive.proofs.add.close.Statement.{statement}
 use Rattle.archive.proofs.add.close.Tie as tie
@@ -31,7 +31,7 @@ same_length c = search rules
 returns : tie.Need-returns
 returns c =
     let i = c.before in
-    when_refused _ _ (close-records _ _ _ i.before.before.walk.ensures (not-true _ i.if1.true)) c.refuse.ensures
+    when_refused _ _ (close_records _ _ _ i.before.before.walk.ensures (not-true _ i.if1.true)) c.refuse.ensures
 
 is-full-requires : tie.Need-is-full-requires
 is-full-requires c κs = search rules
@@ -47,7 +47,7 @@ returns-2 c =
     let full = c.before.before in
     let i = full.before in
     when_refused _ _
-    (close-full _ _ _ i.before.before.walk.ensures (not-false _ i.if1.false)
+    (close_full_lem _ _ _ i.before.before.walk.ensures (not-false _ i.if1.false)
     (sym full.is-full.ensures ∙ c.before.if2.true))
     c.refuse2.ensures
 
@@ -55,7 +55,7 @@ put-index-requires : tie.Need-put-index-requires
 put-index-requires c κs =
     let full = c.before.before in
     let i = full.before in
-    index-room _ _ _ i.before.before.walk.ensures (not-false _ i.if1.false) (sym full.is-full.ensures ∙ c.before.if2.false)
+    index_room _ _ _ i.before.before.walk.ensures (not-false _ i.if1.false) (sym full.is-full.ensures ∙ c.before.if2.false)
 
 entry-size-requires : tie.Need-entry-size-requires
 entry-size-requires c κs = search rules
@@ -67,7 +67,7 @@ mul-to c =
     let i = full.before in
     omega (
       arith,
-      closing-few _ _ _ i.before.before.walk.ensures (not-false _ i.if1.false) c.entry-size.ensures
+      closing_few _ _ _ i.before.before.walk.ensures (not-false _ i.if1.false) c.entry-size.ensures
           (sym full.is-full.ensures ∙ j.if2.false),
     )
 
@@ -78,7 +78,7 @@ add-to c =
     let i = full.before in
     omega (
       arith,
-      closing-few _ _ _ i.before.before.walk.ensures (not-false _ i.if1.false) c.entry-size.ensures
+      closing_few _ _ _ i.before.before.walk.ensures (not-false _ i.if1.false) c.entry-size.ensures
           (sym full.is-full.ensures ∙ j.if2.false),
     )
 
@@ -88,7 +88,7 @@ put-trailer-requires c κs =
     let j = c.before.before.before.before.before.before in
     let full = j.before in
     let i = full.before in
-    trailer-room _ _ _ i.before.before.walk.ensures (not-false _ i.if1.false) size.entry-size.ensures
+    trailer_room _ _ _ i.before.before.walk.ensures (not-false _ i.if1.false) size.entry-size.ensures
     (sym full.is-full.ensures ∙ j.if2.false)
     size.before.before.before.put-index.ensures
 
@@ -100,7 +100,7 @@ add-t17 c =
     let i = full.before in
     omega (
       arith,
-      closing-few _ _ _ i.before.before.walk.ensures (not-false _ i.if1.false) size.entry-size.ensures
+      closing_few _ _ _ i.before.before.walk.ensures (not-false _ i.if1.false) size.entry-size.ensures
           (sym full.is-full.ensures ∙ j.if2.false),
     )
 
@@ -118,7 +118,7 @@ returns-3 c =
     (close_stores _ _ _ i.before.before.walk.ensures (not-false _ i.if1.false)
     (sym full.is-full.ensures ∙ first.before.before.if2.false))
     (closed_size _ _ _ i.before.before.walk.ensures (not-false _ i.if1.false) size.entry-size.ensures)
-    (closing-stores _ _ _ i.before.before.walk.ensures (not-false _ i.if1.false) size.entry-size.ensures
+    (closing_stores _ _ _ i.before.before.walk.ensures (not-false _ i.if1.false) size.entry-size.ensures
     (λ k. (i.before.before.before.before.slice-known.given k).fits)
     first.put-index.ensures
     last.put-trailer.ensures)

@@ -8,7 +8,7 @@ use borrow.Author.Rules.{rules}
 use lib.ListN.{length}
 use lib.Seq.{length-sets}
 use Rattle.archive.proofs.FormLaws.{width_most}
-use Rattle.archive.proofs.IndexLaws.{Indexing, index_start, index_end, turn_sized, turn_room, index-turn}
+use Rattle.archive.proofs.IndexLaws.{Indexing, index_start, index_end, turn_sized, turn_room, index_turn}
 use Rattle.archive.proofs.add.put_index.Statement.{statement}
 use Rattle.archive.proofs.add.put_index.Tie as tie
 
@@ -87,7 +87,7 @@ loop-again c =
     let w = first.before.before in
     let r = w.before.before.before in
     let t = r.before.before in
-    index-turn t.before.loop.invariant t.loop-test.true r.size-at.ensures
+    index_turn t.before.loop.invariant t.loop-test.true r.size-at.ensures
     w.offset-width.ensures
     w.before.session-at.ensures
     c.entry-size.ensures

@@ -21,7 +21,7 @@ returns : tie.Need-returns
 returns c =
     let run = c.before.before in
     let number = run.before.before.before.before in
-    record_stores _ _ _ _ _ number.write-number.ensures run.put-run.ensures
+    record_stores _ _ _ _ _ number.write-number.ensures run.put_run.ensures
 
 pub put-record-spec : {M : Type 1} → statement M
 put-record-spec = tie.close (tie.spec write-number-requires add-put-run put-run-requires same_length returns)

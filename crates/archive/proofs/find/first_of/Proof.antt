@@ -4,7 +4,7 @@ use Prim.Native.Nat.{◌-◌}
 use native.Mathlib.Omega.{arith}
 use borrow.Author.Rules.{rules}
 use Rattle.archive.proofs.FormLaws.{limit_small, width_most}
-use Rattle.archive.proofs.FindLaws.{Seeking, seek_small, seek_start, seek_end, seek-in, seek_hit, seek-on}
+use Rattle.archive.proofs.FindLaws.{Seeking, seek_small, seek_start, seek_end, seek_in, seek_hit, seek_on}
 use Rattle.archive.proofs.find.first_of.Statement.{statement}
 use Rattle.archive.proofs.find.first_of.Tie as tie
 
@@ -37,7 +37,7 @@ two-at-requires c κs =
     let p = k.before.requires in
     omega (
       arith,
-      seek-in _ _ _ p.0 p.1 _ (λ i. (k.shared-slice-known.given i).fits) _ _ l.loop.invariant c.if1.true,
+      seek_in _ _ _ p.0 p.1 _ (λ i. (k.shared-slice-known.given i).fits) _ _ l.loop.invariant c.if1.true,
     )
 
 add-result : tie.Need-overflow-add-result invariant-loop decreases-loop
@@ -64,7 +64,7 @@ add-at-2 c =
     omega (
       arith,
       c.entry-size.ensures,
-      seek-in _ _ _ p.0 p.1 _ (λ i. (k.shared-slice-known.given i).fits) _ _ l.loop.invariant v.before.if1.true,
+      seek_in _ _ _ p.0 p.1 _ (λ i. (k.shared-slice-known.given i).fits) _ _ l.loop.invariant v.before.if1.true,
     )
 
 add-i : tie.Need-overflow-add-i invariant-loop decreases-loop
@@ -79,7 +79,7 @@ loop-again c =
     let l = v.before.before.before in
     let k = l.before.before.before in
     let p = k.before.requires in
-    seek-on _ _ _ p.0 p.1 _ (λ i. (k.shared-slice-known.given i).fits) _ _ l.loop.invariant v.before.if1.true
+    seek_on _ _ _ p.0 p.1 _ (λ i. (k.shared-slice-known.given i).fits) _ _ l.loop.invariant v.before.if1.true
     _ v.two_at.ensures c.before.if2.false _ c.entry-size.ensures
 
 returns-2 : tie.Need-returns-2 invariant-loop decreases-loop

@@ -4,7 +4,7 @@ use mathlib.Core.Path.{refl}
 use native.Mathlib.Omega.{arith}
 use Rattle.wire.specs.Header.{field_at}
 use Rattle.archive.proofs.FormLaws.{width_most}
-use Rattle.archive.proofs.FindLaws.{nth-entry, nth-there, nth-is}
+use Rattle.archive.proofs.FindLaws.{nth_entry, nth_there, nth_is}
 use borrow.Author.Rules.{rules}
 use Rattle.archive.proofs.find.nth.Statement.{statement}
 use Rattle.archive.proofs.find.nth.Tie as tie
@@ -21,7 +21,7 @@ mul-entry c =
     let p = k.before.requires in
     omega (
       arith,
-      nth-entry _ k.before.args.f _ _ p.0 (λ i. (k.shared-slice-known.given i).fits) _ p.1 p.2
+      nth_entry _ k.before.args.f _ _ p.0 (λ i. (k.shared-slice-known.given i).fits) _ p.1 p.2
           _ _ c.entry-size.ensures refl,
     )
 
@@ -31,7 +31,7 @@ add-entry c =
     let p = k.before.requires in
     omega (
       arith,
-      nth-entry _ k.before.args.f _ _ p.0 (λ i. (k.shared-slice-known.given i).fits) _ p.1 p.2
+      nth_entry _ k.before.args.f _ _ p.0 (λ i. (k.shared-slice-known.given i).fits) _ p.1 p.2
           _ _ c.entry-size.ensures refl,
     )
 
@@ -43,7 +43,7 @@ read-number-requires c κs =
     let e = c.before in
     let k = e.before in
     let p = k.before.requires in (
-      nth-entry _ k.before.args.f _ _ p.0 (λ i. (k.shared-slice-known.given i).fits) _ p.1 p.2
+      nth_entry _ k.before.args.f _ _ p.0 (λ i. (k.shared-slice-known.given i).fits) _ p.1 p.2
           _ _ e.entry-size.ensures c.offset-width.ensures,
       omega (arith, c.offset-width.ensures, width_most k.before.args.f),
     )
@@ -57,7 +57,7 @@ add-t10 c =
     let p = k.before.requires in
     omega (
       arith,
-      nth-there _ k.before.args.f _ _ p.0 (λ i. (k.shared-slice-known.given i).fits) _ p.1 p.2
+      nth_there _ k.before.args.f _ _ p.0 (λ i. (k.shared-slice-known.given i).fits) _ p.1 p.2
           _ _ e.entry-size.ensures w.offset-width.ensures _ c.read_number.ensures.0,
     )
 
@@ -68,7 +68,7 @@ two-at-requires c κs =
     let e = w.before in
     let k = e.before in
     let p = k.before.requires in
-    nth-there _ k.before.args.f _ _ p.0 (λ i. (k.shared-slice-known.given i).fits) _ p.1 p.2
+    nth_there _ k.before.args.f _ _ p.0 (λ i. (k.shared-slice-known.given i).fits) _ p.1 p.2
     _ _ e.entry-size.ensures w.offset-width.ensures _ c.read_number.ensures.0
 
 cast-t8 : tie.Need-overflow-cast-t8
@@ -82,7 +82,7 @@ returns c =
     let e = w.before in
     let k = e.before in
     let p = k.before.requires in
-    nth-is _ k.before.args.f _ _ p.0 (λ i. (k.shared-slice-known.given i).fits) _ p.1 p.2
+    nth_is _ k.before.args.f _ _ p.0 (λ i. (k.shared-slice-known.given i).fits) _ p.1 p.2
     _ _ e.entry-size.ensures w.offset-width.ensures _ r.read_number.ensures.0 _ c.two_at.ensures
 
 pub nth-spec : {M : Type 1} → statement M

@@ -3,7 +3,7 @@
 use mathlib.Core.Path.{sym, ◌∙◌}
 use native.Mathlib.Omega.{arith}
 use Rattle.archive.specs.declared.form.Form.TheVariants.{One}
-use Rattle.archive.proofs.FindLaws.{opened-zero, shown_refused, in_one, shown_zero, shown_past}
+use Rattle.archive.proofs.FindLaws.{opened_zero, shown_refused, in_one, shown_zero, shown_past}
 use borrow.Author.Rules.{rules}
 use Rattle.archive.proofs.find.shown.Statement.{statement}
 use Rattle.archive.proofs.find.shown.Tie as tie
@@ -26,7 +26,7 @@ returns-2 : tie.Need-returns-2
 returns-2 c =
     let i = c.before.before in
     let v = i.before in
-    let o = opened-zero _ _ v.before.before.requires One (in_one _) (sym v.number.ensures ∙ i.if1.false) in
+    let o = opened_zero _ _ v.before.before.requires One (in_one _) (sym v.number.ensures ∙ i.if1.false) in
     c.refuse2.ensures ∙ shown_zero _ One _ _ o _ c.before.if2.true
 
 refuse-requires-3 : tie.Need-refuse-requires-3
@@ -36,14 +36,14 @@ returns-3 : tie.Need-returns-3
 returns-3 c =
     let i = c.before.before.before.before in
     let v = i.before in
-    let o = opened-zero _ _ v.before.before.requires One (in_one _) (sym v.number.ensures ∙ i.if1.false) in
+    let o = opened_zero _ _ v.before.before.requires One (in_one _) (sym v.number.ensures ∙ i.if1.false) in
     c.refuse3.ensures ∙ shown_past _ One _ _ o _ c.before.if3.true
 
 nth-requires : tie.Need-nth-requires
 nth-requires c κs =
     let i = c.before.before.before in
     let v = i.before in
-    (opened-zero _ _ v.before.before.requires One (in_one _) (sym v.number.ensures ∙ i.if1.false), omega arith, omega arith)
+    (opened_zero _ _ v.before.before.requires One (in_one _) (sym v.number.ensures ∙ i.if1.false), omega arith, omega arith)
 
 returns-4 : tie.Need-returns-4
 returns-4 c = search rules

@@ -6,7 +6,7 @@ use native.Mathlib.Omega.{arith}
 use borrow.Author.Rules.{rules}
 use borrow.Author.Tests.{not-true, not-false}
 use Rattle.archive.specs.Form.{entry_size}
-use Rattle.archive.proofs.OpenLaws.{check-torn, check-count, check-end, check-told, check-index, check-all}
+use Rattle.archive.proofs.OpenLaws.{check_torn, check_count, check_end, check_told, check_index, check_all}
 use Rattle.archive.proofs.open.checked.Statement.{statement}
 use Rattle.archive.proofs.open.checked.Tie as tie
 
@@ -21,7 +21,7 @@ returns c =
     let w = c.before.before.before in
     let s = w.before in
     c.refuse.ensures
-    ∙ check-torn _ (λ i. (s.shared-slice-known.given i).fits) _ _ _ _ s.before.requires _ w.walk.ensures
+    ∙ check_torn _ (λ i. (s.shared-slice-known.given i).fits) _ _ _ _ s.before.requires _ w.walk.ensures
     (not-true _ c.before.if1.true)
 
 refuse-requires-2 : tie.Need-refuse-requires-2
@@ -33,7 +33,7 @@ returns-2 c =
     let w = i.before.before in
     let s = w.before in
     c.refuse2.ensures
-    ∙ check-count _ (λ i. (s.shared-slice-known.given i).ranges) _ _ _ _ s.before.requires _ w.walk.ensures
+    ∙ check_count _ (λ i. (s.shared-slice-known.given i).ranges) _ _ _ _ s.before.requires _ w.walk.ensures
     (not-false _ i.if1.false) c.before.if2.true
 
 entry-size-requires : tie.Need-entry-size-requires
@@ -62,7 +62,7 @@ returns-3 c =
     let w = i.before.before in
     let s = w.before in
     c.refuse3.ensures
-    ∙ check-end _ (λ i. (s.shared-slice-known.given i).ranges) _ _ _ _ s.before.requires _ w.walk.ensures
+    ∙ check_end _ (λ i. (s.shared-slice-known.given i).ranges) _ _ _ _ s.before.requires _ w.walk.ensures
     (not-false _ i.if1.false) j.if2.false _ e.entry-size.ensures c.before.if3.true
 
 index-agrees-requires : tie.Need-index-agrees-requires
@@ -72,7 +72,7 @@ index-agrees-requires c κs =
     let i = j.before.before in
     let w = i.before.before in
     let s = w.before in
-    check-told _ (λ i. (s.shared-slice-known.given i).ranges) _ _ _ _ s.before.requires _ w.walk.ensures
+    check_told _ (λ i. (s.shared-slice-known.given i).ranges) _ _ _ _ s.before.requires _ w.walk.ensures
     (not-false _ i.if1.false) j.if2.false _ e.entry-size.ensures c.if3.false
 
 refuse-requires-4 : tie.Need-refuse-requires-4
@@ -87,7 +87,7 @@ returns-4 c =
     let w = i.before.before in
     let s = w.before in
     c.refuse4.ensures
-    ∙ check-index _ (λ i. (s.shared-slice-known.given i).ranges) _ _ _ _ s.before.requires _ w.walk.ensures
+    ∙ check_index _ (λ i. (s.shared-slice-known.given i).ranges) _ _ _ _ s.before.requires _ w.walk.ensures
     (not-false _ i.if1.false) j.if2.false _ e.entry-size.ensures k.if3.false
     _ c.before.before.index-Agrees.ensures (not-true _ c.before.if4.true)
 
@@ -99,7 +99,7 @@ returns-5 c =
     let i = j.before.before in
     let w = i.before.before in
     let s = w.before in
-    check-all _ (λ i. (s.shared-slice-known.given i).ranges) _ _ _ _ s.before.requires _ w.walk.ensures
+    check_all _ (λ i. (s.shared-slice-known.given i).ranges) _ _ _ _ s.before.requires _ w.walk.ensures
     (not-false _ i.if1.false) j.if2.false _ e.entry-size.ensures k.if3.false
     _ c.before.index-Agrees.ensures (not-false _ c.if4.false)
 

@@ -6,7 +6,7 @@ use Prim.Native.Nat.{◌-◌}
 use native.Mathlib.Omega.{arith}
 use borrow.Author.Rules.{rules}
 use borrow.Author.Tests.{not-true, not-false}
-use Rattle.archive.proofs.AgreeLaws.{Going, going_start, going_end, record-sized, entry-room, going-no, going_on}
+use Rattle.archive.proofs.AgreeLaws.{Going, going_start, going_end, record_sized, entry_room, going_no, going_on}
 use Rattle.archive.proofs.open.index_agrees.Statement.{statement}
 use Rattle.archive.proofs.open.index_agrees.Tie as tie
 
@@ -23,15 +23,15 @@ entry-agrees-requires : tie.Need-entry-agrees-requires invariant-loop decreases-
 entry-agrees-requires c κs =
     let s = c.before.before.before in
     let t = c.before.loop in
-    let room = entry-room _ _ _ _ s.requires _ _ t.invariant c.loop-test.true in
-    let sized = record-sized _ _ _ _ s.requires _ _ t.invariant c.loop-test.true in
+    let room = entry_room _ _ _ _ s.requires _ _ t.invariant c.loop-test.true in
+    let sized = record_sized _ _ _ _ s.requires _ _ t.invariant c.loop-test.true in
     (omega arith, omega arith)
 
 returns : tie.Need-returns invariant-loop decreases-loop
 returns c =
     let l = c.before.before in
     let s = l.before.before in
-    going-no _ _ _ _ s.before.requires _ _ l.before.loop.invariant l.loop-test.true (λ i. (s.shared-slice-known.given i).fits)
+    going_no _ _ _ _ s.before.requires _ _ l.before.loop.invariant l.loop-test.true (λ i. (s.shared-slice-known.given i).fits)
     (sym c.before.entry-agrees.ensures ∙ not-true _ c.if1.true)
 
 entry-size-requires : tie.Need-entry-size-requires invariant-loop decreases-loop
@@ -41,25 +41,25 @@ add-to : tie.Need-overflow-add-to invariant-loop decreases-loop
 add-to c =
     let l = c.before.before.before in
     let s = l.before.before.before in
-    omega (arith, c.entry-size.ensures, entry-room _ _ _ _ s.requires _ _ l.before.loop.invariant l.loop-test.true)
+    omega (arith, c.entry-size.ensures, entry_room _ _ _ _ s.requires _ _ l.before.loop.invariant l.loop-test.true)
 
 size-at-requires : tie.Need-size-at-requires invariant-loop decreases-loop
 size-at-requires c κs =
     let l = c.before.before.before in
     let s = l.before.before.before in
-    omega (arith, record-sized _ _ _ _ s.requires _ _ l.before.loop.invariant l.loop-test.true)
+    omega (arith, record_sized _ _ _ _ s.requires _ _ l.before.loop.invariant l.loop-test.true)
 
 add_at : tie.Need-overflow-add-at invariant-loop decreases-loop
 add_at c =
     let l = c.before.before.before.before in
     let s = l.before.before.before in
-    omega (arith, c.size-at.ensures, record-sized _ _ _ _ s.requires _ _ l.before.loop.invariant l.loop-test.true)
+    omega (arith, c.size-at.ensures, record_sized _ _ _ _ s.requires _ _ l.before.loop.invariant l.loop-test.true)
 
 loop-less : tie.Need-loop-smaller invariant-loop decreases-loop
 loop-less c =
     let l = c.before.before.before.before in
     let s = l.before.before.before in
-    omega (arith, c.size-at.ensures, record-sized _ _ _ _ s.requires _ _ l.before.loop.invariant l.loop-test.true)
+    omega (arith, c.size-at.ensures, record_sized _ _ _ _ s.requires _ _ l.before.loop.invariant l.loop-test.true)
 
 loop-again : tie.Need-loop-preserved invariant-loop decreases-loop
 loop-again c =

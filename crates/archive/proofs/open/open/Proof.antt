@@ -8,7 +8,7 @@ use Rattle.wire.specs.Header.{field_at}
 use Rattle.archive.specs.declared.form.Form.{Form}
 use Rattle.archive.specs.declared.form.Form.TheVariants.{One}
 use Rattle.archive.specs.Form.{form_number}
-use Rattle.archive.proofs.OpenLaws.{open_short, open-other, open-large, open-past, open-trailed, open-checked}
+use Rattle.archive.proofs.OpenLaws.{open_short, open_other, open_large, open_past, open_trailed, open_checked}
 use Rattle.archive.proofs.open.open.Statement.{statement}
 use Rattle.archive.proofs.open.open.Tie as tie
 
@@ -45,7 +45,7 @@ returns-2 c =
     let f = c.before.before in
     let v = f.before in
     c.refuse2.ensures
-    ∙ open-other _ v.before.if1.false _ v.two_at.ensures
+    ∙ open_other _ v.before.if1.false _ v.two_at.ensures
     (no_other _ (λ q. c.before.if2.true (q ∙ sym f.number.ensures)))
 
 limit-requires : tie.Need-limit-requires
@@ -61,7 +61,7 @@ returns-3 c =
     let f = i.before in
     let v = f.before in
     c.refuse3.ensures
-    ∙ open-large _ v.before.if1.false _ v.two_at.ensures One
+    ∙ open_large _ v.before.if1.false _ v.two_at.ensures One
     (i.if2.false ∙ f.number.ensures) _ l.limit.ensures c.before.if3.true
 
 read-number-requires : tie.Need-read-number-requires
@@ -103,7 +103,7 @@ returns-4 c =
     let f = i.before in
     let v = f.before in
     c.refuse4.ensures
-    ∙ open-past _ v.before.if1.false _ v.two_at.ensures One
+    ∙ open_past _ v.before.if1.false _ v.two_at.ensures One
     (i.if2.false ∙ f.number.ensures) _ l.limit.ensures j.if3.false _ _ _ a.read_number.ensures.0
     n.two-at2.ensures c.before.before.entry-size.ensures c.before.if4.true
 
@@ -117,7 +117,7 @@ checked-requires c κs =
     let i = l.before in
     let f = i.before in
     let v = f.before in
-    open-trailed _ v.before.if1.false _ v.two_at.ensures One
+    open_trailed _ v.before.if1.false _ v.two_at.ensures One
     (i.if2.false ∙ f.number.ensures) _ l.limit.ensures j.if3.false _ _ _ a.read_number.ensures.0
     n.two-at2.ensures c.before.entry-size.ensures c.if4.false
 
@@ -131,7 +131,7 @@ returns-5 c =
     let i = l.before in
     let f = i.before in
     let v = f.before in
-    open-checked _ v.before.if1.false _ v.two_at.ensures One
+    open_checked _ v.before.if1.false _ v.two_at.ensures One
     (i.if2.false ∙ f.number.ensures) _ l.limit.ensures j.if3.false _ _ _ a.read_number.ensures.0
     n.two-at2.ensures c.before.before.entry-size.ensures c.before.if4.false _ c.checked.ensures
 

@@ -4,7 +4,7 @@ use native.Mathlib.Omega.{arith}
 use mathlib.Core.Bool.{true, false}
 use borrow.Author.Tests.{not-true, not-false}
 use borrow.Author.Rules.{rules}
-use Rattle.archive.proofs.WalkLaws.{size_short, size-past, size-by}
+use Rattle.archive.proofs.WalkLaws.{size_short, size_past, size_by}
 use Rattle.archive.proofs.records.record_at.Statement.{statement}
 use Rattle.archive.proofs.records.record_at.Tie as tie
 
@@ -31,7 +31,7 @@ sub-if2 c = search rules
 returns-2 : tie.Need-returns-2
 returns-2 c =
     let a = c.before.before.before.before.args in
-    size-past a.file.now a.at a.end (omega arith) (omega arith) (rw (← c.before.two_at.ensures) (omega arith))
+    size_past a.file.now a.at a.end (omega arith) (omega arith) (rw (← c.before.two_at.ensures) (omega arith))
 
 add-is-message : tie.Need-overflow-add-is-message
 add-is-message c = search rules
@@ -52,7 +52,7 @@ returns-3 : tie.Need-returns-3
 returns-3 c =
     let a = c.before.before.before.before.before.before.before.args in
     let t = c.before.before.before.before.two_at in
-    size-by a.file.now a.at a.end (omega arith) (omega arith) t.result t.ensures (omega arith) _ false
+    size_by a.file.now a.at a.end (omega arith) (omega arith) t.result t.ensures (omega arith) _ false
     c.before.is-message.ensures (not-true _ c.if3.true)
 
 add-result : tie.Need-overflow-add-result
@@ -62,7 +62,7 @@ returns-4 : tie.Need-returns-4
 returns-4 c =
     let a = c.before.before.before.before.before.before.before.args in
     let t = c.before.before.before.before.two_at in
-    size-by a.file.now a.at a.end (omega arith) (omega arith) t.result t.ensures (omega arith) _ true
+    size_by a.file.now a.at a.end (omega arith) (omega arith) t.result t.ensures (omega arith) _ true
     c.before.is-message.ensures (not-false _ c.if3.false)
 
 pub record-at-spec : {M : Type 1} → statement M

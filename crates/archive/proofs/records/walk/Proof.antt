@@ -9,7 +9,7 @@ use lib.Seq.{slice}
 use borrow.Author.Rules.{rules}
 use Rattle.archive.specs.Records.{cut_all, messages_to}
 use Rattle.archive.specs.Walking.{cut_size, walked_from}
-use Rattle.archive.proofs.WalkLaws.{some_size, cut-sized, walk_turn, walk_stop, walk_end, told_past, told_in}
+use Rattle.archive.proofs.WalkLaws.{some_size, cut_sized, walk_turn, walk_stop, walk_end, told_past, told_in}
 use Rattle.archive.proofs.records.walk.Statement.{statement}
 use Rattle.archive.proofs.records.walk.Tie as tie
 
@@ -46,7 +46,7 @@ add_at c =
     let a = c.before.before.before.before.before.before.args in
     let t = c.before.before.before.loop in
     let r = c.before.record-at in
-    let sized = cut-sized a.file.now t.at a.size (omega arith) (omega arith) (some_size _ (λ e. c.if2.false (r.ensures ∙ e))) in
+    let sized = cut_sized a.file.now t.at a.size (omega arith) (omega arith) (some_size _ (λ e. c.if2.false (r.ensures ∙ e))) in
     search (rules, r.ensures, sized)
 
 add-n : tie.Need-overflow-add-n invariant-loop decreases-loop
@@ -61,7 +61,7 @@ loop-again c =
     let t = c.before.before.before.loop in
     let r = c.before.record-at in
     let some_bytes : cut_size (slice t.at a.size a.file.now) ≡ 0 → ⊥ = λ e. c.if2.false (r.ensures ∙ e) in
-    let sized = cut-sized a.file.now t.at a.size (omega arith) (omega arith) (some_size _ some_bytes) in (
+    let sized = cut_sized a.file.now t.at a.size (omega arith) (omega arith) (some_size _ some_bytes) in (
       omega (arith, r.ensures, sized),
       omega (arith, r.ensures, sized),
       omega arith,

@@ -74,7 +74,7 @@ use Rattle.message.specs.contracts.rows.write_message as wr
 use Rattle.message.proofs.rows.write_message.Symbol as wr-def
 use Rattle.message.proofs.rows.write_message.Symbol.{name as #message·rows·write-message}
 use Rattle.message.proofs.rows.write_message.Met as wr-thm
-use Rattle.bench.proofs.Rows.{arrv, IsRows, one_less, and_nothing, arr_in, arr_out, before, behind, row_cut, row-join}
+use Rattle.bench.proofs.Rows.{arrv, IsRows, one_less, and_nothing, arr_in, arr_out, before, behind, row_cut, row_join}
 use Rattle.bench.specs.contracts.lent.write_often.Key.{name as #bench·lent·write-often}
 use Rattle.bench.specs.contracts.lent.write_often as f
 use Rattle.bench.proofs.lent.write_often.Statement as stated
@@ -343,7 +343,7 @@ module _ {M : Type 1} {𝓤 : Ura M} (𝓛 : Logic 𝓤) (at_mem : Memory → SP
             leaves_loop ! (load ! (from ! (stop !)) (look ! 3 refl)) $ exec ! C Λ En body.t-5 (at_ret En Post) $
             assigns ! (of_opd ! (load ! (from ! (stop !)) (look ! 1 refl))) (from ! (stop !)) (init ! 14 refl ((LL.lawful N.the_type N'.the_laws 𝓛).typed s _ fine.0).0) $
             move ! (19 ∷ []) $ lft_end ! tt $ move ! (0 ∷ 20 ∷ []) $ lent_back ! tt $ fsplit ! $ drop ! $ move ! (0 ∷ 20 ∷ []) $
-            use2 𝓛 (‵ (row T.the_row full_share rows l₉ 0)) (row-join 𝓛 rows l₉ n) $ use1 𝓛 (‵ (froom arr l₉ 0)) (arr_out 𝓛 rows l₉ len) $
+            use2 𝓛 (‵ (row T.the_row full_share rows l₉ 0)) (row_join 𝓛 rows l₉ n) $ use1 𝓛 (‵ (froom arr l₉ 0)) (arr_out 𝓛 rows l₉ len) $
             -- [_9 0; out's 1; last 2; left 3; _12 4; _13 5; _14 6; _1 7; _10 8; _4 9; _5 10; _6 11; _2 12; _3 13; _11 14; _0 15; content's 16; κ's token 17; κ''s 18; the lent rows 19; …]
             returns ! (look ! 15 refl) $ forget ! 2 refl $ forget ! 3 refl $ forget ! 4 refl $ forget ! 7 refl $ forget ! 8 refl $ forget ! 9 refl $ forget ! 10 refl $ forget ! 11 refl $ forget ! 12 refl $ forget ! 13 refl $ forget ! 14 refl $ forget ! 15 refl $
             move ! (15 ∷ 20 ∷ []) $ free1 ! $ move ! (7 ∷ 19 ∷ []) $ free1 ! $ move ! (11 ∷ 18 ∷ []) $ free1 ! $ move ! (11 ∷ 17 ∷ []) $ free1 ! $ move ! (8 ∷ 16 ∷ []) $ free1 ! $ move ! (8 ∷ 15 ∷ []) $ free1 ! $ move ! (8 ∷ 14 ∷ []) $ free1 ! $ move ! (3 ∷ 13 ∷ []) $ free1 ! $ move ! (2 ∷ 12 ∷ []) $ free1 ! $ move ! (0 ∷ 11 ∷ []) $ free1 ! $ move ! (4 ∷ 10 ∷ []) $ free1 ! $ move ! (4 ∷ 9 ∷ []) $ free1 ! $ move ! (1 ∷ 8 ∷ []) $ free1 ! $ move ! (1 ∷ 7 ∷ []) $ free1 ! $ move ! (1 ∷ 6 ∷ []) $ free1 ! $ free0 ! $

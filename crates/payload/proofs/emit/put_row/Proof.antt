@@ -18,10 +18,10 @@ use Rattle.payload.proofs.Writing.SizeLaws.{
   own_run,
   own_field,
   own_least,
-  piece-none,
-  piece-number,
-  piece-branch,
-  piece-run,
+  piece_none,
+  piece_number,
+  piece_branch,
+  piece_run,
 }
 use borrow.Author.Rules.{rules}
 use Rattle.payload.proofs.emit.put_row.Statement.{statement}
@@ -34,7 +34,7 @@ returns c =
     let e = c.if1.true in (
       sym (ap (a.at +◌) (own_none a.width a.cell a.size e) ∙ add-zero a.at),
       rw
-          (piece-none a.width a.ws s.requires.2 a.cell s.requires.0 a.content.now a.num a.size s.requires.1 (a.size - 1) e),
+          (piece_none a.width a.ws s.requires.2 a.cell s.requires.0 a.content.now a.num a.size s.requires.1 (a.size - 1) e),
     )
 
 kind-in-requires : tie.Need-kind-in-requires
@@ -102,7 +102,7 @@ returns-2 c =
         c.before.before.write-number2.ensures,
         c7.write-number.ensures,
         c8.tag-for.ensures,
-        piece-number a.width a.ws s.requires.2
+        piece_number a.width a.ws s.requires.2
             a.cell s.requires.0 a.content.now a.num a.size s.requires.1 some (a.size - 1) h,
       )
           (two_stores a.out.now (number_bytes big 2 (tag_for a.ws (row_in a.cell))) (number_bytes big (a.size - 1) a.num) a.at 2
@@ -148,7 +148,7 @@ returns-3 c =
         c.before.before.before.write-number3.ensures,
         c8.write-number.ensures,
         c9.tag-for.ensures,
-        piece-branch a.width a.ws
+        piece_branch a.width a.ws
             s.requires.2 a.cell s.requires.0 a.content.now a.num a.size s.requires.1 some (a.size - 1) k,
       )
           (two_stores a.out.now (number_bytes big 2 (tag_for a.ws (row_in a.cell))) (number_bytes big a.width (a.size - 1)) a.at 2
@@ -232,7 +232,7 @@ returns-4 c =
         c7.write-number3.ensures,
         c12.write-number.ensures,
         c13.tag-for.ensures,
-        piece-run
+        piece_run
             a.width a.ws s.requires.2 a.cell s.requires.0 a.content.now a.num a.size s.requires.1 some (a.size - 1) h k,
       )
           (three_stores a.out.now (number_bytes big 2 (tag_for a.ws (row_in a.cell))) (number_bytes big a.width (a.size - 1))

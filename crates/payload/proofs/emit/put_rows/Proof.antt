@@ -12,7 +12,7 @@ use lib.Seq.{sets, length-sets}
 use Rattle.payload.specs.Parts.{under}
 use Rattle.payload.specs.Columns.{parts_in}
 use Rattle.payload.specs.Sizes.{rest_in}
-use Rattle.payload.proofs.Writing.StoreLaws.{row-length, row-store, bytes_end}
+use Rattle.payload.proofs.Writing.StoreLaws.{row_length, row_store, bytes_end}
 use Rattle.payload.proofs.emit.put_rows.Statement.{statement}
 use Rattle.payload.proofs.emit.put_rows.Tie as tie
 
@@ -76,7 +76,7 @@ put-row-requires c κs =
         t.invariant.1,
         t.invariant.2,
         s.requires.2,
-        row-length a.width a.ws a.content.now a.cells.now a.nums.now a.sizes.now
+        row_length a.width a.ws a.content.now a.cells.now a.nums.now a.sizes.now
             a.count s.requires.0 s.requires.1 t.i more,
       ),
     )
@@ -102,10 +102,10 @@ loop-again c =
         arith,
         e.0,
         t.invariant.2,
-        row-length a.width a.ws a.content.now a.cells.now a.nums.now a.sizes.now
+        row_length a.width a.ws a.content.now a.cells.now a.nums.now a.sizes.now
             a.count s.requires.0 s.requires.1 t.i more,
       )),
-      rw (add-one, e.1, e.0) (row-store a.width a.ws a.content.now a.cells.now a.nums.now a.sizes.now a.count s.requires.0
+      rw (add-one, e.1, e.0) (row_store a.width a.ws a.content.now a.cells.now a.nums.now a.sizes.now a.count s.requires.0
           s.requires.1 t.i more t.out t.at ∙ t.invariant.3),
     )
 

@@ -10,7 +10,7 @@ use lib.ListN.{length, get_or}
 use Rattle.payload.specs.Row.{absent_row}
 use Rattle.payload.proofs.Joined.{clash}
 use Rattle.payload.proofs.Writing.PackLaws.{inside_short}
-use Rattle.payload.proofs.Writing.JudgeLaws.{Judging, judging_none, judging-end, judging-outside, judging-unfit, judging-next}
+use Rattle.payload.proofs.Writing.JudgeLaws.{Judging, judging_none, judging_end, judging_outside, judging_unfit, judging_next}
 use Rattle.payload.proofs.judge.judge_rows.Statement.{statement}
 use Rattle.payload.proofs.judge.judge_rows.Tie as tie
 
@@ -38,7 +38,7 @@ returns c =
     let s = c4.before.before in
     let t = c4.loop in
     let held : s.args.count ≤ length s.args.t1 = omega arith in (
-      judging-outside s.args.content.now s.args.cells.now s.args.t1 s.args.count t.nums t.sizes t.upto t.i t.invariant
+      judging_outside s.args.content.now s.args.cells.now s.args.t1 s.args.count t.nums t.sizes t.upto t.i t.invariant
           s.requires.0.few held c.before.before.before.loop-test.true
           (sym c.before.is-outside.ensures ∙ c.if1.true),
       (λ e. clash (cc), (t.invariant.long_nums, t.invariant.long_sizes, held)),
@@ -64,7 +64,7 @@ returns-2 c =
     let s = c7.before.before in
     let t = c7.loop in
     let held : s.args.count ≤ length s.args.t1 = omega arith in (
-      judging-unfit s.args.content.now s.args.cells.now s.args.t1 s.args.count t.nums t.sizes t.upto t.i t.invariant
+      judging_unfit s.args.content.now s.args.cells.now s.args.t1 s.args.count t.nums t.sizes t.upto t.i t.invariant
           s.requires.0.few held c6.loop-test.true
           (sym c4.is-outside.ensures ∙ c.before.before.before.if1.false)
           (sym c.before.row_fine.ensures ∙ not-true _ c.if2.true),
@@ -114,7 +114,7 @@ loop-again c =
     let t = c9.loop in
     let held : s.args.count ≤ length s.args.t1 = omega arith in
     let short : length s.args.content.now < 9223372036854775808 = omega (arith, s.well-formed) in
-    judging-next s.args.content.now s.args.cells.now s.args.t1 s.args.count t.nums t.sizes t.upto t.i t.invariant
+    judging_next s.args.content.now s.args.cells.now s.args.t1 s.args.count t.nums t.sizes t.upto t.i t.invariant
     s.requires.0.few held c8.loop-test.true
     (sym c6.is-outside.ensures ∙ c5.if1.false)
     (sym c.before.before.before.row_fine.ensures ∙ not-false _ c.before.before.if2.false)
@@ -126,7 +126,7 @@ returns-3 : tie.Need-returns-3 invariant-loop decreases-loop
 returns-3 c =
     let s = c.before.before.before in
     let t = c.before.loop in (
-      judging-end s.args.content.now s.args.cells.now s.args.t1 s.args.count t.nums t.sizes t.upto t.i t.invariant
+      judging_end s.args.content.now s.args.cells.now s.args.t1 s.args.count t.nums t.sizes t.upto t.i t.invariant
           c.loop-test.false,
       (λ e j h. t.invariant.packed j (omega arith), (t.invariant.long_nums, t.invariant.long_sizes, omega arith)),
     )

@@ -1,7 +1,7 @@
 -- `payload::member::content_at` meets its contract.
 -- Assumes nothing.
 use native.Mathlib.Omega.{arith}
-use Rattle.payload.proofs.Walking.ContentLaws.{field_few, fixed-cut, fixed_in, field_cut, lengthed-cut, lengthed-in}
+use Rattle.payload.proofs.Walking.ContentLaws.{field_few, fixed_cut, fixed_in, field_cut, lengthed_cut, lengthed_in}
 use borrow.Author.Rules.{rules}
 use Rattle.payload.proofs.member.content_at.Statement.{statement}
 use Rattle.payload.proofs.member.content_at.Tie as tie
@@ -13,7 +13,7 @@ sub-if2 : tie.Need-overflow-sub-if2
 sub-if2 c = search rules
 
 returns : tie.Need-returns
-returns c = fixed-cut _ _ _ _ _ c.before.before.before.before.requires.0 c.before.before.before.before.requires.1 _ c.before.before.if1.true c.before.fixed-size.ensures.0 c.if2.true
+returns c = fixed_cut _ _ _ _ _ c.before.before.before.before.requires.0 c.before.before.before.before.requires.1 _ c.before.before.if1.true c.before.fixed-size.ensures.0 c.if2.true
 
 add-t11 : tie.Need-overflow-add-t11
 add-t11 c = search rules
@@ -40,13 +40,13 @@ sub-if4 : tie.Need-overflow-sub-if4
 sub-if4 c = search rules
 
 returns-4 : tie.Need-returns-4
-returns-4 c = lengthed-cut _ _ _ _ _ c.before.before.before.before.before.before.requires.0 c.before.before.before.before.before.before.requires.1 _ c.before.before.before.before.if1.false c.before.before.before.field-width.ensures _ c.before.read_number.ensures.0 c.before.before.if3.false c.if4.true
+returns-4 c = lengthed_cut _ _ _ _ _ c.before.before.before.before.before.before.requires.0 c.before.before.before.before.before.before.requires.1 _ c.before.before.before.before.if1.false c.before.before.before.field-width.ensures _ c.before.read_number.ensures.0 c.before.before.if3.false c.if4.true
 
 add-t15 : tie.Need-overflow-add-t15
 add-t15 c = search rules
 
 returns-5 : tie.Need-returns-5
-returns-5 c = lengthed-in _ _ _ _ _ c.before.before.before.before.before.before.requires.0 c.before.before.before.before.before.before.requires.1 _ c.before.before.before.before.if1.false c.before.before.before.field-width.ensures _ c.before.read_number.ensures.0 c.before.before.if3.false c.if4.false
+returns-5 c = lengthed_in _ _ _ _ _ c.before.before.before.before.before.before.requires.0 c.before.before.before.before.before.before.requires.1 _ c.before.before.before.before.if1.false c.before.before.before.field-width.ensures _ c.before.read_number.ensures.0 c.before.before.if3.false c.if4.false
 
 pub content-at-spec : {M : Type 1} → statement M
 content-at-spec =

@@ -4,7 +4,7 @@ use mathlib.Core.Path.{refl, sym, ap, ◌∙◌}
 use native.Mathlib.Omega.{arith}
 use Rattle.wire.proofs.KindLaws.{number_fixed}
 use Rattle.payload.proofs.Walking.ContentLaws.{fixed_sized}
-use Rattle.payload.proofs.Walking.MemberLaws.{known-cut, known_in}
+use Rattle.payload.proofs.Walking.MemberLaws.{known_cut, known_in}
 use borrow.Author.Rules.{rules}
 use Rattle.payload.proofs.member.known_at.Statement.{statement}
 use Rattle.payload.proofs.member.known_at.Tie as tie
@@ -26,7 +26,7 @@ leaf-at-requires c κs =
     (q.0, h.1, omega (arith, h.2, q.3), λ k. let d = number_fixed _ q.0.kind_some k _ q.1 in fixed_sized _ _ _ _ d.0 _ _ _ _ e ∙ rw d.1)
 
 returns : tie.Need-returns
-returns c = known-cut _ _ _ _ _ c.before.before.before.content-at.ensures.0 c.before.before.before.content-at.ensures.1 _ _ _ _ c.before.why.given.1 _ refl
+returns c = known_cut _ _ _ _ _ c.before.before.before.content-at.ensures.0 c.before.before.before.content-at.ensures.1 _ _ _ _ c.before.why.given.1 _ refl
 
 returns-2 : tie.Need-returns-2
 returns-2 c = known_in _ _ _ _ _ c.before.before.before.before.content-at.ensures.0 c.before.before.before.before.content-at.ensures.1 _ _ _ c.before.before.c.given.1 _ c.leaf-at.ensures

@@ -6,7 +6,7 @@ use mathlib.Core.Bool.{Bool}
 use native.Mathlib.Omega.{arith}
 use borrow.Author.Tests.{not-true, not-false}
 use Rattle.wire.specs.Kind.{wire_fits}
-use Rattle.payload.proofs.Walking.MemberLaws.{member_cut, member-unknown, member-wire, member-twice, member-known}
+use Rattle.payload.proofs.Walking.MemberLaws.{member_cut, member_unknown, member_wire, member_twice, member_known}
 use borrow.Author.Rules.{rules}
 use Rattle.payload.proofs.member.member_at.Statement.{statement}
 use Rattle.payload.proofs.member.member_at.Tie as tie
@@ -61,7 +61,7 @@ wire-fits-requires c κs = let h = rw c.before.before.before.i.given.1 at c.befo
 
 returns-2 : tie.Need-returns-2
 returns-2 c =
-    member-wire _ _ _ _ _ c.before.before.before.before.before.before.before.before.before.before.before.before.before.requires.0 c.before.before.before.before.before.before.before.before.before.before.before.if1.false _ c.before.before.before.before.before.before.before.before.before.before.read_number.ensures.0 _ c.before.before.before.before.before.before.before.before.before.wire-of.ensures _ c.before.before.before.before.before.before.before.before.ident-of.ensures _ c.before.before.before.before.before.before.before.find-level.ensures.0 c.before.before.before.before.before.before.before.find-level.ensures.1 _ c.before.before.before.before.before.i.given.1
+    member_wire _ _ _ _ _ c.before.before.before.before.before.before.before.before.before.before.before.before.before.requires.0 c.before.before.before.before.before.before.before.before.before.before.before.if1.false _ c.before.before.before.before.before.before.before.before.before.before.read_number.ensures.0 _ c.before.before.before.before.before.before.before.before.before.wire-of.ensures _ c.before.before.before.before.before.before.before.before.ident-of.ensures _ c.before.before.before.before.before.before.before.find-level.ensures.0 c.before.before.before.before.before.before.before.find-level.ensures.1 _ c.before.before.before.before.before.i.given.1
     (fits _ c.before.before.kind-in.ensures c.before.wire-fits.ensures (not-true _ c.if2.true)) _ refl
 
 mul-if3 : tie.Need-overflow-mul-if3
@@ -72,7 +72,7 @@ element-copy-out-if3 c = let h = rw c.before.before.before.before.before.i.given
 
 returns-3 : tie.Need-returns-3
 returns-3 c =
-    member-twice _ _ _ _ _ c.before.before.before.before.before.before.before.before.before.before.before.before.before.before.before.requires.0 c.before.before.before.before.before.before.before.before.before.before.before.before.before.if1.false _ c.before.before.before.before.before.before.before.before.before.before.before.before.read_number.ensures.0 _ c.before.before.before.before.before.before.before.before.before.before.before.wire-of.ensures _ c.before.before.before.before.before.before.before.before.before.before.ident-of.ensures _ c.before.before.before.before.before.before.before.before.before.find-level.ensures.0 c.before.before.before.before.before.before.before.before.before.find-level.ensures.1 _ c.before.before.before.before.before.before.before.i.given.1
+    member_twice _ _ _ _ _ c.before.before.before.before.before.before.before.before.before.before.before.before.before.before.before.requires.0 c.before.before.before.before.before.before.before.before.before.before.before.before.before.if1.false _ c.before.before.before.before.before.before.before.before.before.before.before.before.read_number.ensures.0 _ c.before.before.before.before.before.before.before.before.before.before.before.wire-of.ensures _ c.before.before.before.before.before.before.before.before.before.before.ident-of.ensures _ c.before.before.before.before.before.before.before.before.before.find-level.ensures.0 c.before.before.before.before.before.before.before.before.before.find-level.ensures.1 _ c.before.before.before.before.before.before.before.i.given.1
     (fits _ c.before.before.before.before.kind-in.ensures c.before.before.before.wire-fits.ensures (not-false _ c.before.before.if2.false)) c.if3.true _ refl
 
 add-known-at : tie.Need-overflow-add-known-at
@@ -85,11 +85,11 @@ known-at-requires c κs =
 
 returns-4 : tie.Need-returns-4
 returns-4 c =
-    member-unknown _ _ _ _ _ c.before.before.before.before.before.before.before.before.before.requires.0 c.before.before.before.before.before.before.before.if1.false _ c.before.before.before.before.before.before.read_number.ensures.0 _ c.before.before.before.before.before.wire-of.ensures _ c.before.before.before.before.ident-of.ensures _ c.before.before.before.find-level.ensures.0 c.before.before.before.find-level.ensures.1 c.before.enum_told.given.1 _ c.unknown-at.ensures
+    member_unknown _ _ _ _ _ c.before.before.before.before.before.before.before.before.before.requires.0 c.before.before.before.before.before.before.before.if1.false _ c.before.before.before.before.before.before.read_number.ensures.0 _ c.before.before.before.before.before.wire-of.ensures _ c.before.before.before.before.ident-of.ensures _ c.before.before.before.find-level.ensures.0 c.before.before.before.find-level.ensures.1 c.before.enum_told.given.1 _ c.unknown-at.ensures
 
 returns-5 : tie.Need-returns-5
 returns-5 c =
-    member-known _ _ _ _ _ c.before.before.before.before.before.before.before.before.before.before.before.before.before.before.before.before.requires.0 c.before.before.before.before.before.before.before.before.before.before.before.before.before.before.if1.false _ c.before.before.before.before.before.before.before.before.before.before.before.before.before.read_number.ensures.0 _ c.before.before.before.before.before.before.before.before.before.before.before.before.wire-of.ensures _ c.before.before.before.before.before.before.before.before.before.before.before.ident-of.ensures _ c.before.before.before.before.before.before.before.before.before.before.find-level.ensures.0 c.before.before.before.before.before.before.before.before.before.before.find-level.ensures.1 _ c.before.before.before.before.before.before.before.before.i.given.1
+    member_known _ _ _ _ _ c.before.before.before.before.before.before.before.before.before.before.before.before.before.before.before.before.requires.0 c.before.before.before.before.before.before.before.before.before.before.before.before.before.before.if1.false _ c.before.before.before.before.before.before.before.before.before.before.before.before.before.read_number.ensures.0 _ c.before.before.before.before.before.before.before.before.before.before.before.before.wire-of.ensures _ c.before.before.before.before.before.before.before.before.before.before.before.ident-of.ensures _ c.before.before.before.before.before.before.before.before.before.before.find-level.ensures.0 c.before.before.before.before.before.before.before.before.before.before.find-level.ensures.1 _ c.before.before.before.before.before.before.before.before.i.given.1
     (fits _ c.before.before.before.before.before.kind-in.ensures c.before.before.before.before.wire-fits.ensures (not-false _ c.before.before.before.if2.false)) c.before.if3.false _ c.known_at_lem.ensures
 
 pub member-at-spec : {M : Type 1} → statement M

@@ -7,17 +7,17 @@ use borrow.Author.Rules.{rules}
 use Rattle.payload.proofs.Walking.LevelLaws.{
   OnWay,
   way_none,
-  way-more,
-  way-refused,
-  way-missing,
-  way-closed,
-  read-bad,
-  read-unknown,
-  read-leaf,
-  inner-low,
-  inner-less,
-  inner-ready,
-  read-struct,
+  way_more,
+  way_refused,
+  way_missing,
+  way_closed,
+  read_bad,
+  read_unknown,
+  read_leaf,
+  inner_low,
+  inner_less,
+  inner_ready,
+  read_struct,
 }
 use Prim.Native.Nat.{ℕ, ◌<◌, ◌+◌, ◌-◌, ◌*◌}
 use borrow.Fn.Kinds.{In}
@@ -94,7 +94,7 @@ read-level-returns : (t : ℕ) → read-level-lts.Need-returns (
   lacks-reads.Asked,
   lacks-reads.Learnt,
 ) (read-level-at t) read-level.Post read-level-Inv-loop read-level-μ-loop
-read-level-returns t c = way-refused _ _ _ _ _ _ _ _ _ c.before.before.before.before.before.before.before.before.loop.invariant _ _ _ c.before.before.before.read-member.ensures _ _ c.before.why.given.1 _ refl
+read-level-returns t c = way_refused _ _ _ _ _ _ _ _ _ c.before.before.before.before.before.before.before.before.loop.invariant _ _ _ c.before.before.before.read-member.ensures _ _ c.before.why.given.1 _ refl
 
 read-level-enum-known-next : (t : ℕ) → read-level-lts.Need-enum-known-next (
   read-member-below t,
@@ -119,7 +119,7 @@ read-level-loop-again : (t : ℕ) → read-level-lts.Need-loop-preserved (
   lacks-reads.Asked,
   lacks-reads.Learnt,
 ) (read-level-at t) read-level.Post read-level-Inv-loop read-level-μ-loop
-read-level-loop-again t c = way-more _ _ _ _ _ _ _ _ _ c.before.before.before.before.before.before.before.before.loop.invariant _ _ _ c.before.before.before.read-member.ensures _ c.before.next.given.1
+read-level-loop-again t c = way_more _ _ _ _ _ _ _ _ _ c.before.before.before.before.before.before.before.before.loop.invariant _ _ _ c.before.before.before.read-member.ensures _ c.before.next.given.1
 
 read-level-lacks-requires : (t : ℕ) → read-level-lts.Need-lacks-requires (
   read-member-below t,
@@ -137,7 +137,7 @@ read-level-returns-2 : (t : ℕ) → read-level-lts.Need-returns-2 (
   lacks-reads.Asked,
   lacks-reads.Learnt,
 ) (read-level-at t) read-level.Post read-level-Inv-loop read-level-μ-loop
-read-level-returns-2 t c = way-missing _ _ _ _ _ _ _ _ _ c.before.before.before.before.before.loop.invariant c.before.before.before.if1.false (sym (c.before.lacks.ensures _) ∙ c.if2.true) _ refl
+read-level-returns-2 t c = way_missing _ _ _ _ _ _ _ _ _ c.before.before.before.before.before.loop.invariant c.before.before.before.if1.false (sym (c.before.lacks.ensures _) ∙ c.if2.true) _ refl
 
 read-level-returns-3 : (t : ℕ) → read-level-lts.Need-returns-3 (
   read-member-below t,
@@ -145,7 +145,7 @@ read-level-returns-3 : (t : ℕ) → read-level-lts.Need-returns-3 (
   lacks-reads.Asked,
   lacks-reads.Learnt,
 ) (read-level-at t) read-level.Post read-level-Inv-loop read-level-μ-loop
-read-level-returns-3 t c = way-closed _ _ _ _ _ _ _ _ _ c.before.before.before.before.before.loop.invariant c.before.before.before.if1.false (sym (c.before.lacks.ensures _) ∙ c.if2.false) _ refl
+read-level-returns-3 t c = way_closed _ _ _ _ _ _ _ _ _ c.before.before.before.before.before.loop.invariant c.before.before.before.if1.false (sym (c.before.lacks.ensures _) ∙ c.if2.false) _ refl
 
 read-member-member-at-requires : (t : ℕ) → read-member-lts.Need-member-at-requires (
   member-at-reads.Asked,
@@ -253,7 +253,7 @@ read-member-inner-requires : (t : ℕ) → read-member-lts.Need-inner-requires (
   read-level-below t,
   read-level.Post,
 ) (read-member-at t) read-member.Post
-read-member-inner-requires t c κs = inner-low _ _ _ _ _ _ c.before.before.before.before.before.before.before.before.before.before.before.requires.1.0 c.before.before.before.before.before.before.before.before.before.before.before.requires.1.1 _ c.before.before.before.before.before.before.before.before.member-at.ensures _ _ _ c.before.before.keep2.ensures.0 c.before.before.keep2.ensures.1 c.before.before.before.before.before.before.s2.given.1
+read-member-inner-requires t c κs = inner_low _ _ _ _ _ _ c.before.before.before.before.before.before.before.before.before.before.before.requires.1.0 c.before.before.before.before.before.before.before.before.before.before.before.requires.1.1 _ c.before.before.before.before.before.before.before.before.member-at.ensures _ _ _ c.before.before.keep2.ensures.0 c.before.before.keep2.ensures.1 c.before.before.before.before.before.before.s2.given.1
 
 read-member-read-level-requires : (t : ℕ) → read-member-lts.Need-read-level-requires (
   member-at-reads.Asked,
@@ -267,9 +267,9 @@ read-member-read-level-requires : (t : ℕ) → read-member-lts.Need-read-level-
 ) (read-member-at t) read-member.Post
 read-member-read-level-requires t c κs =
     let q = c.before.before.before.before.before.before.before.before.before.before.before.before.requires.1 in
-    let less = inner-less _ _ _ _ _ _ q.0 q.1 _ c.before.before.before.before.before.before.before.before.before.member-at.ensures _ _ _ c.before.before.before.keep2.ensures.0 c.before.before.before.keep2.ensures.1 c.before.before.before.before.before.before.before.s2.given.1 in (
+    let less = inner_less _ _ _ _ _ _ q.0 q.1 _ c.before.before.before.before.before.before.before.before.before.member-at.ensures _ _ _ c.before.before.before.keep2.ensures.0 c.before.before.before.keep2.ensures.1 c.before.before.before.before.before.before.before.s2.given.1 in (
       rw c.inner.ensures.0 (omega (arith, c.before.before.before.before.before.before.before.before.before.before.before.before.requires.0, less)),
-      inner-ready _ _ _ _ _ _ q.0 q.1 _ c.before.before.before.before.before.before.before.before.before.member-at.ensures _ _ _ c.before.before.before.keep2.ensures.0 c.before.before.before.keep2.ensures.1 c.before.before.before.before.before.before.before.s2.given.1 _ refl _ c.inner.ensures.0 c.inner.ensures.1,
+      inner_ready _ _ _ _ _ _ q.0 q.1 _ c.before.before.before.before.before.before.before.before.before.member-at.ensures _ _ _ c.before.before.before.keep2.ensures.0 c.before.before.before.keep2.ensures.1 c.before.before.before.before.before.before.before.s2.given.1 _ refl _ c.inner.ensures.0 c.inner.ensures.1,
     )
 
 read-member-returns : (t : ℕ) → read-member-lts.Need-returns (
@@ -282,7 +282,7 @@ read-member-returns : (t : ℕ) → read-member-lts.Need-returns (
   read-level-below t,
   read-level.Post,
 ) (read-member-at t) read-member.Post
-read-member-returns t c = read-bad _ _ _ _ _ _ c.before.before.before.before.before.before.requires.1.0 c.before.before.before.before.before.before.requires.1.1 _ c.before.before.before.member-at.ensures _ _ c.before.why.given.1 _ refl
+read-member-returns t c = read_bad _ _ _ _ _ _ c.before.before.before.before.before.before.requires.1.0 c.before.before.before.before.before.before.requires.1.1 _ c.before.before.before.member-at.ensures _ _ c.before.why.given.1 _ refl
 
 read-member-returns-2 : (t : ℕ) → read-member-lts.Need-returns-2 (
   member-at-reads.Asked,
@@ -294,7 +294,7 @@ read-member-returns-2 : (t : ℕ) → read-member-lts.Need-returns-2 (
   read-level-below t,
   read-level.Post,
 ) (read-member-at t) read-member.Post
-read-member-returns-2 t c = read-unknown _ _ _ _ _ _ c.before.before.before.before.before.before.before.requires.1.0 c.before.before.before.before.before.before.before.requires.1.1 _ c.before.before.before.before.member-at.ensures _ _ c.before.before.to.given.1 refl _ refl
+read-member-returns-2 t c = read_unknown _ _ _ _ _ _ c.before.before.before.before.before.before.before.requires.1.0 c.before.before.before.before.before.before.before.requires.1.1 _ c.before.before.before.before.member-at.ensures _ _ c.before.before.to.given.1 refl _ refl
 
 read-member-returns-3 : (t : ℕ) → read-member-lts.Need-returns-3 (
   member-at-reads.Asked,
@@ -306,7 +306,7 @@ read-member-returns-3 : (t : ℕ) → read-member-lts.Need-returns-3 (
   read-level-below t,
   read-level.Post,
 ) (read-member-at t) read-member.Post
-read-member-returns-3 t c = read-leaf _ _ _ _ _ _ c.before.before.before.before.before.before.before.before.before.requires.1.0 c.before.before.before.before.before.before.before.before.before.requires.1.1 _ c.before.before.before.before.before.before.member-at.ensures _ _ _ c.keep.ensures.0 c.keep.ensures.1 c.before.before.before.before.s.given.1 _ refl
+read-member-returns-3 t c = read_leaf _ _ _ _ _ _ c.before.before.before.before.before.before.before.before.before.requires.1.0 c.before.before.before.before.before.before.before.before.before.requires.1.1 _ c.before.before.before.before.before.before.member-at.ensures _ _ _ c.keep.ensures.0 c.keep.ensures.1 c.before.before.before.before.s.given.1 _ refl
 
 read-member-returns-4 : (t : ℕ) → read-member-lts.Need-returns-4 (
   member-at-reads.Asked,
@@ -319,7 +319,7 @@ read-member-returns-4 : (t : ℕ) → read-member-lts.Need-returns-4 (
   read-level.Post,
 ) (read-member-at t) read-member.Post
 read-member-returns-4 t c =
-    read-struct _ _ _ _ _ _ c.before.before.before.before.before.before.before.before.before.before.before.before.before.requires.1.0 c.before.before.before.before.before.before.before.before.before.before.before.before.before.requires.1.1 _ c.before.before.before.before.before.before.before.before.before.before.member-at.ensures _ _ _ c.before.before.before.before.keep2.ensures.0 c.before.before.before.before.keep2.ensures.1 c.before.before.before.before.before.before.before.before.s2.given.1 _ refl _ c.before.inner.ensures.0 _ _ _ c.read-level.ensures
+    read_struct _ _ _ _ _ _ c.before.before.before.before.before.before.before.before.before.before.before.before.before.requires.1.0 c.before.before.before.before.before.before.before.before.before.before.before.before.before.requires.1.1 _ c.before.before.before.before.before.before.before.before.before.before.member-at.ensures _ _ _ c.before.before.before.before.keep2.ensures.0 c.before.before.before.before.keep2.ensures.1 c.before.before.before.before.before.before.before.before.s2.given.1 _ refl _ c.before.inner.ensures.0 _ _ _ c.read-level.ensures
 
 pub +read-level-read-member-spec : {M : Type 1} → statement M
 +read-level-read-member-spec = close μ-read-level μ-read-member (λ t. read-level-lts.spec (

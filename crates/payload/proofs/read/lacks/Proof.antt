@@ -9,14 +9,14 @@ use native.Mathlib.Numerals.{add-one}
 use borrow.Author.Rules.{rules}
 use Rattle.payload.specs.Cells.{Stops}
 use Rattle.payload.proofs.Joined.{clash}
-use Rattle.payload.proofs.Walking.LackLaws.{lacksAt, lacks-this, lacks-next, lacks_stop}
+use Rattle.payload.proofs.Walking.LackLaws.{lacks_at, lacks_this, lacks_next, lacks_stop}
 use Rattle.payload.proofs.read.lacks.Statement.{statement}
 use Rattle.payload.proofs.read.lacks.Tie as tie
 
 abbrev invariant-loop : tie.invariant-loop
 invariant-loop cells marks n level i₀ i =
     (i₀ ≤ i) × (i ≤ n)
-    × ((count : ℕ) (words : List ℕ) → Stops cells i₀ n count level → lacksAt cells marks count level words i₀ ≡ lacksAt cells marks count level words i)
+    × ((count : ℕ) (words : List ℕ) → Stops cells i₀ n count level → lacks_at cells marks count level words i₀ ≡ lacks_at cells marks count level words i)
 
 abbrev decreases-loop : tie.decreases-loop
 decreases-loop cells marks n level i₀ i = n - i
@@ -48,7 +48,7 @@ returns c = λ words.
     let l = c.before.before.before.before.before.before.before.before.loop in
     let s = a.requires.1 in
     sym (l.invariant.2 a.args.f.count words s
-    ∙ lacks-this _ _ a.args.f.count _ words l.i (omega (arith, s.to, c.before.before.before.before.before.before.before.loop-test.true)) (omega arith)
+    ∙ lacks_this _ _ a.args.f.count _ words l.i (omega (arith, s.to, c.before.before.before.before.before.before.before.loop-test.true)) (omega arith)
     (sym c.before.before.before.is-required.ensures ∙ c.before.before.if2.true) c.if3.true)
 
 add-i : tie.Need-overflow-add-i invariant-loop decreases-loop
@@ -64,7 +64,7 @@ loop-again c =
       omega arith,
       omega arith,
       λ count words s.
-          rw (add-one l.i) (l.invariant.2 count words s ∙ lacks-next _ _ count _ words l.i (omega (arith, s.to)) (s.deep _ l.invariant.0 h)
+          rw (add-one l.i) (l.invariant.2 count words s ∙ lacks_next _ _ count _ words l.i (omega (arith, s.to)) (s.deep _ l.invariant.0 h)
           (λ e r z.
           ⊎_elim (λ w. w.4.left z) (⊎_elim (λ w. clash (sym w.2.left ∙ w.1.ensures ∙ r)) (λ w. w.left (c.before.level_in.ensures ∙ e)))
           c.if1.branch)),

@@ -5,12 +5,12 @@ use Prim.Native.Nat.{◌≤◌, ◌-◌}
 use native.Mathlib.Omega.{arith}
 use borrow.Author.Rules.{rules}
 use Rattle.payload.specs.Cells.{table_in, FineTable}
-use Rattle.payload.proofs.Walking.KeptLaws.{firstRows, kept_more, kept_all}
+use Rattle.payload.proofs.Walking.KeptLaws.{first_rows, kept_more, kept_all}
 use Rattle.payload.proofs.read.read_after.Statement.{statement}
 use Rattle.payload.proofs.read.read_after.Tie as tie
 
 abbrev invariant-loop : tie.invariant-loop
-invariant-loop p cells count width words marks o n rows₀ i₀ rows i = (i ≤ n) × (n ≤ 64) × (rows ≡ firstRows (table_in n cells) words marks i)
+invariant-loop p cells count width words marks o n rows₀ i₀ rows i = (i ≤ n) × (n ≤ 64) × (rows ≡ first_rows (table_in n cells) words marks i)
 
 abbrev decreases-loop : tie.decreases-loop
 decreases-loop p cells count width words marks o n rows₀ i₀ rows i = n - i

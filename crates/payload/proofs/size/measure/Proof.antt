@@ -6,7 +6,7 @@ use Prim.Native.Nat.{ℕ, ◌+◌, ◌-◌, ◌*◌, ◌≤◌, ◌<◌}
 use native.Mathlib.Omega.{arith}
 use borrow.Author.Rules.{rules}
 use Rattle.payload.specs.Sizes.{field_top}
-use Rattle.payload.proofs.Writing.MeasureLaws.{row_most, below_le, Sizing, sizing_none, sizing-end, sizing-wide, sizing-own, sizing-next}
+use Rattle.payload.proofs.Writing.MeasureLaws.{row_most, below_le, Sizing, sizing_none, sizing_end, sizing_wide, sizing_own, sizing_next}
 use Rattle.payload.proofs.size.measure.Statement.{statement}
 use Rattle.payload.proofs.size.measure.Tie as tie
 
@@ -56,7 +56,7 @@ returns c =
     let c5 = c4.before in
     let s = c5.before.before in
     let t = c5.loop in (
-      λ ws buf nums k. sizing-wide s.args.width s.args.count s.args.cells.now s.args.sizes.now t.sizes t.s t.i
+      λ ws buf nums k. sizing_wide s.args.width s.args.count s.args.cells.now s.args.sizes.now t.sizes t.s t.i
           t.invariant.0 s.requires.1 (t.i - 1) c4.loop-test.true refl _ c.before.whole.ensures (rw t.invariant.1 at c.if1.true) ws buf
           nums t.sizes k,
       t.invariant.0.long,
@@ -87,7 +87,7 @@ added-requires c κs =
     let s = c7.before.before in
     let t = c7.loop in
     let own : c.own-len.result < row_most = rw c.own-len.ensures
-    (sizing-own s.args.width s.args.count s.args.cells.now s.args.sizes.now t.sizes t.s t.i t.invariant.0 s.requires.1
+    (sizing_own s.args.width s.args.count s.args.cells.now s.args.sizes.now t.sizes t.s t.i t.invariant.0 s.requires.1
     (t.i - 1) c6.loop-test.true refl _ c.before.before.before.whole.ensures (rw t.invariant.1 at c.before.before.if1.false)) in
     (below_le _ _ t.s (room-more s.args.count t.i c.own-len.result s.requires.0 own) t.invariant.0.room, omega arith)
 
@@ -101,7 +101,7 @@ loop-again c =
     let c8 = c7.before in
     let s = c8.before.before in
     let t = c8.loop in (
-      sizing-next s.args.width s.args.count s.args.cells.now s.args.sizes.now t.sizes t.s t.i t.invariant.0 s.requires.1
+      sizing_next s.args.width s.args.count s.args.cells.now s.args.sizes.now t.sizes t.s t.i t.invariant.0 s.requires.1
           (t.i - 1) c7.loop-test.true refl _ c4.whole.ensures (rw t.invariant.1 at c.before.before.before.if1.false)
           _ _ c.before.own-len.ensures c.before.before.level_in.ensures _ c.added.ensures,
       t.invariant.1,
@@ -111,7 +111,7 @@ returns-2 : tie.Need-returns-2 invariant-loop decreases-loop
 returns-2 c =
     let s = c.before.before.before in
     let t = c.before.loop in (
-      λ ws buf nums k. sizing-end s.args.width s.args.count s.args.cells.now s.args.sizes.now t.sizes t.s t.i t.invariant.0
+      λ ws buf nums k. sizing_end s.args.width s.args.count s.args.cells.now s.args.sizes.now t.sizes t.s t.i t.invariant.0
           c.loop-test.false ws buf nums k,
       t.invariant.0.long,
     )

@@ -9,7 +9,7 @@ use borrow.Author.Tests.{not-true, not-false}
 use lib.ListN.{drop}
 use Rattle.payload.specs.Table.{idents_differ}
 use Rattle.payload.specs.Cells.{table_in}
-use Rattle.payload.proofs.Rules.CellLaws.{differ-stop, differ-next, differ_end}
+use Rattle.payload.proofs.Rules.CellLaws.{differ_stop, differ_next, differ_end}
 use Rattle.payload.proofs.table.all_differ.Statement.{statement}
 use Rattle.payload.proofs.table.all_differ.Tie as tie
 
@@ -46,14 +46,14 @@ is-nothing-requires : tie.Need-is-nothing-requires invariant-loop decreases-loop
 is-nothing-requires c κs = search rules
 
 returns : tie.Need-returns invariant-loop decreases-loop
-returns c = sym (c.before.before.before.before.before.before.before.loop.invariant.1 ∙ differ-stop _ _ _ c.before.before.before.before.before.before.loop-test.true _ _ c.before.before.before.before.level_in.ensures c.before.before.before.ident-in.ensures c.before.before.find-row.result (rw (← add-one c.before.before.before.before.before.before.before.loop.i) c.before.before.find-row.ensures.0) (sym c.before.is-nothing.ensures ∙ not-true _ c.if1.true))
+returns c = sym (c.before.before.before.before.before.before.before.loop.invariant.1 ∙ differ_stop _ _ _ c.before.before.before.before.before.before.loop-test.true _ _ c.before.before.before.before.level_in.ensures c.before.before.before.ident-in.ensures c.before.before.find-row.result (rw (← add-one c.before.before.before.before.before.before.before.loop.i) c.before.before.find-row.ensures.0) (sym c.before.is-nothing.ensures ∙ not-true _ c.if1.true))
 
 loop-less : tie.Need-loop-smaller invariant-loop decreases-loop
 loop-less c = omega arith
 
 loop-again : tie.Need-loop-preserved invariant-loop decreases-loop
 loop-again c =
-    (omega arith, rw (add-one c.before.before.before.before.before.before.before.loop.i) (c.before.before.before.before.before.before.before.loop.invariant.1 ∙ differ-next _ _ _ c.before.before.before.before.before.before.loop-test.true _ _ c.before.before.before.before.level_in.ensures c.before.before.before.ident-in.ensures c.before.before.find-row.result (rw (← add-one c.before.before.before.before.before.before.before.loop.i) c.before.before.find-row.ensures.0) (sym c.before.is-nothing.ensures ∙ not-false _ c.if1.false)))
+    (omega arith, rw (add-one c.before.before.before.before.before.before.before.loop.i) (c.before.before.before.before.before.before.before.loop.invariant.1 ∙ differ_next _ _ _ c.before.before.before.before.before.before.loop-test.true _ _ c.before.before.before.before.level_in.ensures c.before.before.before.ident-in.ensures c.before.before.find-row.result (rw (← add-one c.before.before.before.before.before.before.before.loop.i) c.before.before.find-row.ensures.0) (sym c.before.is-nothing.ensures ∙ not-false _ c.if1.false)))
 
 returns-2 : tie.Need-returns-2 invariant-loop decreases-loop
 returns-2 c = sym (c.before.loop.invariant.1 ∙ differ_end _ _ _ c.loop-test.false)

@@ -9,8 +9,8 @@ use borrow.Author.Tests.{not-true, not-false}
 use mathlib.Core.List.{List, map}
 use lib.ListN.{length, length-map}
 use Rattle.payload.proofs.Joined.{clash}
-use Rattle.payload.proofs.Rules.RowLaws.{fits-rules, fine_row}
-use Rattle.payload.proofs.Rules.CheckLaws.{refuse, Passed, passed_none, passed-stop, passed-next, all-fine, answer-differ, answer-rising}
+use Rattle.payload.proofs.Rules.RowLaws.{fits_rules, fine_row}
+use Rattle.payload.proofs.Rules.CheckLaws.{refuse, Passed, passed_none, passed_stop, passed_next, all_fine, answer_differ, answer_rising}
 use Rattle.payload.proofs.table.checked.Statement.{statement}
 use Rattle.payload.proofs.table.checked.Tie as tie
 
@@ -53,10 +53,10 @@ row-fits-requires : tie.Need-row-fits-requires invariant-loop decreases-loop
 row-fits-requires c κs = omega (arith, c.before.before.loop.invariant.most_in)
 
 returns-4 : tie.Need-returns-4 invariant-loop decreases-loop
-returns-4 c = passed-stop _ (long c.before.before.before.before.before.before.before.before.before) _ _ _ _ _ _ c.before.before.before.before.loop.invariant c.before.before.before.before.before.before.before.if2.false c.before.before.before.loop-test.true (sym c.before.row-fits.ensures ∙ not-true _ c.if4.true)
+returns-4 c = passed_stop _ (long c.before.before.before.before.before.before.before.before.before) _ _ _ _ _ _ c.before.before.before.before.loop.invariant c.before.before.before.before.before.before.before.if2.false c.before.before.before.loop-test.true (sym c.before.row-fits.ensures ∙ not-true _ c.if4.true)
 
 packed-requires : tie.Need-packed-requires invariant-loop decreases-loop
-packed-requires c κs = fine_row _ (fits-rules _ _ (sym c.before.row-fits.ensures ∙ not-false _ c.if4.false)).0
+packed-requires c κs = fine_row _ (fits_rules _ _ (sym c.before.row-fits.ensures ∙ not-false _ c.if4.false)).0
 
 mul-cells : tie.Need-overflow-mul-cells invariant-loop decreases-loop
 mul-cells c = search rules
@@ -71,10 +71,10 @@ wide16-requires : tie.Need-wide16-requires invariant-loop decreases-loop
 wide16-requires c κs = search rules
 
 mul-rises : tie.Need-overflow-mul-rises invariant-loop decreases-loop
-mul-rises c = omega (arith, (fits-rules _ _ (sym c.before.before.before.before.row-fits.ensures ∙ not-false _ c.before.before.before.if4.false)).0.level_most_lem, c.before.index.ensures, c.before.before.before.before.before.before.before.loop.invariant.marks)
+mul-rises c = omega (arith, (fits_rules _ _ (sym c.before.before.before.before.row-fits.ensures ∙ not-false _ c.before.before.before.if4.false)).0.level_most_lem, c.before.index.ensures, c.before.before.before.before.before.before.before.loop.invariant.marks)
 
 array-read-rises : tie.Need-array-read-rises invariant-loop decreases-loop
-array-read-rises c = omega (arith, (fits-rules _ _ (sym c.before.before.before.before.row-fits.ensures ∙ not-false _ c.before.before.before.if4.false)).0.level_most_lem, c.before.index.ensures, c.before.before.before.before.before.before.before.loop.invariant.marks)
+array-read-rises c = omega (arith, (fits_rules _ _ (sym c.before.before.before.before.row-fits.ensures ∙ not-false _ c.before.before.before.if4.false)).0.level_most_lem, c.before.index.ensures, c.before.before.before.before.before.before.before.loop.invariant.marks)
 
 rises-requires : tie.Need-rises-requires invariant-loop decreases-loop
 rises-requires c κs = search rules
@@ -83,22 +83,22 @@ add-lasts : tie.Need-overflow-add-lasts invariant-loop decreases-loop
 add-lasts c = search rules
 
 mul-lasts : tie.Need-overflow-mul-lasts invariant-loop decreases-loop
-mul-lasts c = omega (arith, (fits-rules _ _ (sym c.before.before.before.before.before.row-fits.ensures ∙ not-false _ c.before.before.before.before.if4.false)).0.level_most_lem, c.before.before.index.ensures, c.before.before.before.before.before.before.before.before.loop.invariant.marks)
+mul-lasts c = omega (arith, (fits_rules _ _ (sym c.before.before.before.before.before.row-fits.ensures ∙ not-false _ c.before.before.before.before.if4.false)).0.level_most_lem, c.before.before.index.ensures, c.before.before.before.before.before.before.before.before.loop.invariant.marks)
 
 array-write-lasts : tie.Need-array-write-lasts invariant-loop decreases-loop
-array-write-lasts c = omega (arith, (fits-rules _ _ (sym c.before.before.before.before.before.row-fits.ensures ∙ not-false _ c.before.before.before.before.if4.false)).0.level_most_lem, c.before.before.index.ensures, c.before.before.before.before.before.before.before.before.loop.invariant.marks)
+array-write-lasts c = omega (arith, (fits_rules _ _ (sym c.before.before.before.before.before.row-fits.ensures ∙ not-false _ c.before.before.before.before.if4.false)).0.level_most_lem, c.before.before.index.ensures, c.before.before.before.before.before.before.before.before.loop.invariant.marks)
 
 add-lasts-2 : tie.Need-overflow-add-lasts-2 invariant-loop decreases-loop
-add-lasts-2 c = omega (arith, (fits-rules _ _ (sym c.before.before.before.before.before.row-fits.ensures ∙ not-false _ c.before.before.before.before.if4.false)).0.level_most_lem, c.before.before.index.ensures, c.before.before.before.before.before.before.before.before.loop.invariant.marks)
+add-lasts-2 c = omega (arith, (fits_rules _ _ (sym c.before.before.before.before.before.row-fits.ensures ∙ not-false _ c.before.before.before.before.if4.false)).0.level_most_lem, c.before.before.index.ensures, c.before.before.before.before.before.before.before.before.loop.invariant.marks)
 
 mul-lasts-2 : tie.Need-overflow-mul-lasts-2 invariant-loop decreases-loop
-mul-lasts-2 c = omega (arith, (fits-rules _ _ (sym c.before.before.before.before.before.row-fits.ensures ∙ not-false _ c.before.before.before.before.if4.false)).0.level_most_lem, c.before.before.index.ensures, c.before.before.before.before.before.before.before.before.loop.invariant.marks)
+mul-lasts-2 c = omega (arith, (fits_rules _ _ (sym c.before.before.before.before.before.row-fits.ensures ∙ not-false _ c.before.before.before.before.if4.false)).0.level_most_lem, c.before.before.index.ensures, c.before.before.before.before.before.before.before.before.loop.invariant.marks)
 
 array-write-lasts-2 : tie.Need-array-write-lasts-2 invariant-loop decreases-loop
-array-write-lasts-2 c = omega (arith, (fits-rules _ _ (sym c.before.before.before.before.before.row-fits.ensures ∙ not-false _ c.before.before.before.before.if4.false)).0.level_most_lem, c.before.before.index.ensures, c.before.before.before.before.before.before.before.before.loop.invariant.marks)
+array-write-lasts-2 c = omega (arith, (fits_rules _ _ (sym c.before.before.before.before.before.row-fits.ensures ∙ not-false _ c.before.before.before.before.if4.false)).0.level_most_lem, c.before.before.index.ensures, c.before.before.before.before.before.before.before.before.loop.invariant.marks)
 
 level-most-requires : tie.Need-level-most-requires invariant-loop decreases-loop
-level-most-requires c κs = (fits-rules _ _ (sym c.before.before.before.before.before.row-fits.ensures ∙ not-false _ c.before.before.before.before.if4.false)).0.level_most_lem
+level-most-requires c κs = (fits_rules _ _ (sym c.before.before.before.before.before.row-fits.ensures ∙ not-false _ c.before.before.before.before.if4.false)).0.level_most_lem
 
 add-i : tie.Need-overflow-add-i invariant-loop decreases-loop
 add-i c = omega arith
@@ -108,19 +108,19 @@ loop-less c = omega arith
 
 loop-again : tie.Need-loop-preserved invariant-loop decreases-loop
 loop-again c =
-    passed-next _ (long c.before.before.before.before.before.before.before.before.before.before.before.before.before.before) _ _ _ _ _ _ c.before.before.before.before.before.before.before.before.before.loop.invariant c.before.before.before.before.before.before.before.before.before.before.before.before.if2.false c.before.before.before.before.before.before.before.before.loop-test.true (sym c.before.before.before.before.before.before.row-fits.ensures ∙ not-false _ c.before.before.before.before.before.if4.false) _ c.level-most.ensures _ c.before.before.before.before.packed.ensures
+    passed_next _ (long c.before.before.before.before.before.before.before.before.before.before.before.before.before.before) _ _ _ _ _ _ c.before.before.before.before.before.before.before.before.before.loop.invariant c.before.before.before.before.before.before.before.before.before.before.before.before.if2.false c.before.before.before.before.before.before.before.before.loop-test.true (sym c.before.before.before.before.before.before.row-fits.ensures ∙ not-false _ c.before.before.before.before.before.if4.false) _ c.level-most.ensures _ c.before.before.before.before.packed.ensures
     _ _ c.before.before.before.index.ensures c.before.before.wide16.ensures _ c.before.rises.ensures
 
 returns-5 : tie.Need-returns-5 invariant-loop decreases-loop
 returns-5 c =
-    answer-rising _ (long c.before.before.before.before.before.before.before) _ _ _ _ _ _ c.before.before.loop.invariant c.before.before.before.before.before.if2.false c.before.loop-test.false (omega (arith, c.before.before.before.before.before.before.if1.false)) (sym c.before.before.before.before.width-fits.ensures ∙ not-false _ c.before.before.before.if3.false) refl c.if5.true
+    answer_rising _ (long c.before.before.before.before.before.before.before) _ _ _ _ _ _ c.before.before.loop.invariant c.before.before.before.before.before.if2.false c.before.loop-test.false (omega (arith, c.before.before.before.before.before.before.if1.false)) (sym c.before.before.before.before.width-fits.ensures ∙ not-false _ c.before.before.before.if3.false) refl c.if5.true
 
 idents-differ-requires : tie.Need-idents-differ-requires invariant-loop decreases-loop
-idents-differ-requires c κs = all-fine _ (long c.before.before.before.before.before.before.before.before) _ _ _ _ _ _ c.before.before.before.loop.invariant c.before.before.before.before.before.before.if2.false c.before.before.loop-test.false
+idents-differ-requires c κs = all_fine _ (long c.before.before.before.before.before.before.before.before) _ _ _ _ _ _ c.before.before.before.loop.invariant c.before.before.before.before.before.before.if2.false c.before.before.loop-test.false
 
 returns-6 : tie.Need-returns-6 invariant-loop decreases-loop
 returns-6 c =
-    answer-differ _ (long c.before.before.before.before.before.before.before.before.before) _ _ _ _ _ _ c.before.before.before.before.loop.invariant c.before.before.before.before.before.before.before.if2.false c.before.before.before.loop-test.false (omega (arith, c.before.before.before.before.before.before.before.before.if1.false)) (sym c.before.before.before.before.before.before.width-fits.ensures ∙ not-false _ c.before.before.before.before.before.if3.false) _ c.idents-differ.ensures
+    answer_differ _ (long c.before.before.before.before.before.before.before.before.before) _ _ _ _ _ _ c.before.before.before.before.loop.invariant c.before.before.before.before.before.before.before.if2.false c.before.before.before.loop-test.false (omega (arith, c.before.before.before.before.before.before.before.before.if1.false)) (sym c.before.before.before.before.before.before.width-fits.ensures ∙ not-false _ c.before.before.before.before.before.if3.false) _ c.idents-differ.ensures
 
 pub checked-spec : {M : Type 1} → statement M
 checked-spec =

@@ -1,6 +1,6 @@
 -- `elem_fits` meets its contract: one law for each return.
 -- Assumes nothing.
-use Rattle.payload.proofs.Rules.RowLaws.{elem_lacks, elem_has, elem-wrong, elem_next}
+use Rattle.payload.proofs.Rules.RowLaws.{elem_lacks, elem_has, elem_wrong, elem_next}
 use borrow.Author.Rules.{rules}
 use Rattle.payload.proofs.table.elem_fits.Statement.{statement}
 use Rattle.payload.proofs.table.elem_fits.Tie as tie
@@ -12,7 +12,7 @@ returns-2 : tie.Need-returns-2
 returns-2 c = elem_has c.before.before.before.before.before.args.r c.before.before.before.if1.true c.before.if2.false
 
 returns-3 : tie.Need-returns-3
-returns-3 c = elem-wrong c.before.before.before.before.args.r c.before.before.if1.false c.if3.true
+returns-3 c = elem_wrong c.before.before.before.before.args.r c.before.before.if1.false c.if3.true
 
 level-most-requires : tie.Need-level-most-requires
 level-most-requires c κs = search rules

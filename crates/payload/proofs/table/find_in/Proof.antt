@@ -5,7 +5,7 @@ use Prim.Native.Nat.{◌+◌, ◌*◌, ◌-◌, ◌≤◌}
 use native.Mathlib.Omega.{arith}
 use borrow.Author.Rules.{rules}
 use Rattle.payload.specs.Cells.{search_at}
-use Rattle.payload.proofs.Rules.CellLaws.{find-this, within_later}
+use Rattle.payload.proofs.Rules.CellLaws.{find_this, within_later}
 use Rattle.payload.proofs.table.find_in.Statement.{statement}
 use Rattle.payload.proofs.table.find_in.Tie as tie
 
@@ -41,7 +41,7 @@ returns c =
     let a = c.before.before.before.before in
     let same = f.same a.args.stop a.args.level a.args.ident a.requires.2 l.invariant.2 (omega arith) (λ j p q. a.requires.4 j (omega arith) (omega arith)) in
     let hit = f.hit c.if1.true ∙ l.invariant.2 in
-    (sym (l.invariant.3 ∙ same ∙ find-this _ _ _ _ _ (omega arith) a.requires.2 hit), (omega arith, omega arith, omega arith))
+    (sym (l.invariant.3 ∙ same ∙ find_this _ _ _ _ _ (omega arith) a.requires.2 hit), (omega arith, omega arith, omega arith))
 
 loop-less : tie.Need-loop-smaller invariant-loop decreases-loop
 loop-less c = search rules

@@ -7,7 +7,7 @@ use native.Mathlib.Omega.{arith}
 use borrow.Author.Rules.{rules}
 use lib.ListN.{get_or}
 use Rattle.payload.specs.Cells.{level_in, search_at}
-use Rattle.payload.proofs.Rules.CellLaws.{find-end, find-this, find-next}
+use Rattle.payload.proofs.Rules.CellLaws.{find_end, find_this, find_next}
 use Rattle.payload.proofs.table.find_key.Statement.{statement}
 use Rattle.payload.proofs.table.find_key.Tie as tie
 
@@ -32,7 +32,7 @@ returns : tie.Need-returns invariant-loop decreases-loop
 returns c = λ l x small e deep.
     let t = c.before.before.before.loop in
     let h = c.before.before.loop-test.true in
-    (sym (t.invariant.2 l x small e deep ∙ find-this _ _ _ l x h small (c.if1.true ∙ e)), (t.invariant.0, h, omega (arith, c.if1.true)))
+    (sym (t.invariant.2 l x small e deep ∙ find_this _ _ _ l x h small (c.if1.true ∙ e)), (t.invariant.0, h, omega (arith, c.if1.true)))
 
 add-i : tie.Need-overflow-add-i invariant-loop decreases-loop
 add-i c = search rules
@@ -47,11 +47,11 @@ loop-again c =
       omega arith,
       omega arith,
       λ l x small e deep.
-          rw (add-one t.i) (t.invariant.2 l x small e deep ∙ find-next _ _ _ l x h small (λ d. c.if1.false (d ∙ sym e)) (deep _ t.invariant.0 h)),
+          rw (add-one t.i) (t.invariant.2 l x small e deep ∙ find_next _ _ _ l x h small (λ d. c.if1.false (d ∙ sym e)) (deep _ t.invariant.0 h)),
     )
 
 returns-2 : tie.Need-returns-2 invariant-loop decreases-loop
-returns-2 c = λ l x small e deep. (sym (c.before.loop.invariant.2 l x small e deep ∙ find-end _ _ _ l x c.loop-test.false), tt)
+returns-2 c = λ l x small e deep. (sym (c.before.loop.invariant.2 l x small e deep ∙ find_end _ _ _ l x c.loop-test.false), tt)
 
 pub find-key-spec : {M : Type 1} → statement M
 find-key-spec =

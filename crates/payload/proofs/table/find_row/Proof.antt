@@ -8,7 +8,7 @@ use borrow.Author.Rules.{rules}
 use lib.ListN.{drop}
 use Rattle.payload.specs.Table.{find}
 use Rattle.payload.specs.Cells.{table_in, found_at}
-use Rattle.payload.proofs.Rules.CellLaws.{find-end, find-this, find-above, find-next}
+use Rattle.payload.proofs.Rules.CellLaws.{find_end, find_this, find_above, find_next}
 use Rattle.payload.proofs.table.find_row.Statement.{statement}
 use Rattle.payload.proofs.table.find_row.Tie as tie
 
@@ -35,13 +35,13 @@ element-copy-out-c : tie.Need-element-copy-out-c invariant-loop decreases-loop
 element-copy-out-c c = search rules
 
 returns : tie.Need-returns invariant-loop decreases-loop
-returns c = (sym (c.before.before.before.loop.invariant.2 ∙ find-this _ _ _ _ _ c.before.before.loop-test.true (omega arith) c.if1.true), search rules)
+returns c = (sym (c.before.before.before.loop.invariant.2 ∙ find_this _ _ _ _ _ c.before.before.loop-test.true (omega arith) c.if1.true), search rules)
 
 level-in-requires : tie.Need-level-in-requires invariant-loop decreases-loop
 level-in-requires c κs = search rules
 
 returns-2 : tie.Need-returns-2 invariant-loop decreases-loop
-returns-2 c = (sym (c.before.before.before.before.before.loop.invariant.2 ∙ find-above _ _ _ _ _ c.before.before.before.before.loop-test.true (omega arith) (omega arith)), tt)
+returns-2 c = (sym (c.before.before.before.before.before.loop.invariant.2 ∙ find_above _ _ _ _ _ c.before.before.before.before.loop-test.true (omega arith) (omega arith)), tt)
 
 add-i : tie.Need-overflow-add-i invariant-loop decreases-loop
 add-i c = search rules
@@ -53,11 +53,11 @@ loop-again : tie.Need-loop-preserved invariant-loop decreases-loop
 loop-again c = (
   omega arith,
   refl,
-  rw (add-one c.before.before.before.before.before.loop.i) (c.before.before.before.before.before.loop.invariant.2 ∙ find-next _ _ _ _ _ c.before.before.before.before.loop-test.true (omega arith) c.before.before.if1.false (omega arith)),
+  rw (add-one c.before.before.before.before.before.loop.i) (c.before.before.before.before.before.loop.invariant.2 ∙ find_next _ _ _ _ _ c.before.before.before.before.loop-test.true (omega arith) c.before.before.if1.false (omega arith)),
 )
 
 returns-3 : tie.Need-returns-3 invariant-loop decreases-loop
-returns-3 c = (sym (c.before.loop.invariant.2 ∙ find-end _ _ _ _ _ c.loop-test.false), tt)
+returns-3 c = (sym (c.before.loop.invariant.2 ∙ find_end _ _ _ _ _ c.loop-test.false), tt)
 
 pub find-row-spec : {M : Type 1} → statement M
 find-row-spec =

@@ -12,10 +12,10 @@ use Rattle.payload.proofs.Writing.WriteLaws.{
   Passed,
   columns_packed,
   passed_wide,
-  passed-columns,
-  passed-whole,
-  passed-total,
-  passed-fitted,
+  passed_columns,
+  passed_whole,
+  passed_total,
+  passed_fitted,
 }
 use Rattle.payload.proofs.write.write_checked.Statement.{statement}
 use Rattle.payload.proofs.write.write_checked.Tie as tie
@@ -88,9 +88,9 @@ write-total-requires c κs =
     let c4 = c.before.before.before.before in
     let c6 = c4.before.before in
     let p = passed c6 in (
-      passed-columns p c4.total.given.0.0 c4.total.given.1,
-      passed-whole p c4.total.given.0.0 c4.total.given.1,
-      passed-total p
+      passed_columns p c4.total.given.0.0 c4.total.given.1,
+      passed_whole p c4.total.given.0.0 c4.total.given.1,
+      passed_total p
           c4.total.given.0.0 c4.total.given.1,
     )
 
@@ -125,7 +125,7 @@ returns-4 c =
     let c7 = c.before.before.before.before.before.before.before in
     let c9 = c7.before.before in
     let s = c9.before.before.before.before.before.before.before.before.before in
-    let e = passed-fitted (passed c9) c7.total.given.0.0 c7.total.given.1 (length s.args.out.now) in
+    let e = passed_fitted (passed c9) c7.total.given.0.0 c7.total.given.1 (length s.args.out.now) in
     let t = c.before.before.write-total.ensures in
     (t.0 ∙ ap answer_is (sym e), t.1 ∙ ap (output_is s.args.out.now) (sym e))
 

@@ -8,7 +8,7 @@ use borrow.Author.Rules.{rules}
 use borrow.Author.Tests.{not-true, not-false}
 use lib.Seq.{slice, length-slice}
 use Rattle.wire.specs.Text.{text_from}
-use Rattle.wire.proofs.TextLaws.{text_short, text-stop, text-next}
+use Rattle.wire.proofs.TextLaws.{text_short, text_stop, text_next}
 use Rattle.wire.proofs.text.followed.Statement.{statement}
 use Rattle.wire.proofs.text.followed.Tie as tie
 
@@ -46,7 +46,7 @@ returns-2 c =
     let a = c.before.before.before.before.before.before.before.args in
     let t = c.before.before.before.before.loop in
     let no = sym c.before.follows_on.ensures ∙ not-true _ c.if2.true in (
-      t.invariant.1 ∙ text-stop a.p.now a.end (a.at + t.i) (omega arith) (omega arith) (a.n - t.i) (omega arith) no,
+      t.invariant.1 ∙ text_stop a.p.now a.end (a.at + t.i) (omega arith) (omega arith) (a.n - t.i) (omega arith) no,
       λ e. let z : ◌≡◌ {A = ℕ} 0 1 = cc in absurd (omega arith),
     )
 
@@ -63,7 +63,7 @@ loop-again c =
     let yes = sym c.before.follows_on.ensures ∙ not-false _ c.if2.false in (
       omega arith,
       rw (sub-add-eq a.n t.i 1, ← add_assoc a.at t.i 1)
-          (t.invariant.1 ∙ text-next a.p.now a.end (a.at + t.i) (omega arith) (omega arith) (a.n - t.i) (omega arith) yes),
+          (t.invariant.1 ∙ text_next a.p.now a.end (a.at + t.i) (omega arith) (omega arith) (a.n - t.i) (omega arith) yes),
     )
 
 returns-3 : tie.Need-returns-3 invariant-loop decreases-loop

@@ -8,7 +8,7 @@ use borrow.Author.Rules.{rules}
 use borrow.Author.Tests.{not-true, not-false}
 use lib.Seq.{slice}
 use Rattle.wire.specs.Text.{text_fits}
-use Rattle.wire.proofs.TextLaws.{text_end, text-bad, text-plain, text-follow}
+use Rattle.wire.proofs.TextLaws.{text_end, text_bad, text_plain, text_follow}
 use Rattle.wire.proofs.text.text_fits.Statement.{statement}
 use Rattle.wire.proofs.text.text_fits.Tie as tie
 
@@ -41,7 +41,7 @@ loop-again c =
     let a = c.before.before.before.before.before.before.before.args in
     let t = c.before.before.before.before.before.loop in
     let r = c.plain-to.ensures in
-    let one = text-plain a.p.now a.end t.i (omega arith) (omega arith) (sym c.before.before.is_plain.ensures ∙ c.before.if1.true) in
+    let one = text_plain a.p.now a.end t.i (omega arith) (omega arith) (sym c.before.before.is_plain.ensures ∙ c.before.if1.true) in
     (r.1, t.invariant.1 ∙ one ∙ r.2)
 
 following-of-requires : tie.Need-following-of-requires invariant-loop decreases-loop
@@ -51,7 +51,7 @@ returns : tie.Need-returns invariant-loop decreases-loop
 returns c =
     let a = c.before.before.before.before.before.before.before.before.args in
     let t = c.before.before.before.before.before.before.loop in
-    sym (t.invariant.1 ∙ text-bad a.p.now a.end t.i (omega arith) (omega arith) (sym c.before.following-of.ensures ∙ c.if2.true))
+    sym (t.invariant.1 ∙ text_bad a.p.now a.end t.i (omega arith) (omega arith) (sym c.before.following-of.ensures ∙ c.if2.true))
 
 add-followed : tie.Need-overflow-add-followed invariant-loop decreases-loop
 add-followed c = search rules
@@ -65,7 +65,7 @@ returns-2 c =
     let t = c.before.before.before.before.before.before.before.before.loop in
     let n = c.before.before.before.following-of in
     let f = c.before.followed in
-    let whole = text-follow a.p.now a.end t.i (omega arith) (omega arith) n.result n.ensures c.before.before.if2.false in
+    let whole = text_follow a.p.now a.end t.i (omega arith) (omega arith) n.result n.ensures c.before.before.if2.false in
     sym (t.invariant.1 ∙ whole f.result false (not-true _ c.if3.true) f.ensures.0)
 
 add-i : tie.Need-overflow-add-i invariant-loop decreases-loop
@@ -84,7 +84,7 @@ loop-again-2 c =
     let n = c.before.before.before.following-of in
     let f = c.before.followed in
     let yes = not-false _ c.if3.false in
-    let whole = text-follow a.p.now a.end t.i (omega arith) (omega arith) n.result n.ensures c.before.before.if2.false in
+    let whole = text_follow a.p.now a.end t.i (omega arith) (omega arith) n.result n.ensures c.before.before.if2.false in
     (f.ensures.1 yes, t.invariant.1 ∙ whole f.result true yes f.ensures.0)
 
 returns-3 : tie.Need-returns-3 invariant-loop decreases-loop

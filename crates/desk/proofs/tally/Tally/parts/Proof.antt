@@ -6,10 +6,10 @@ use Rattle.desk.proofs.tally.Tally.parts.Statement.{statement}
 use Rattle.desk.proofs.tally.Tally.parts.Tie as tie
 
 abbrev invariant-loop : tie.invariant-loop
-invariant-loop self is-first₀ i₀ is-first i = i ≤ 64
+invariant-loop self is-first₀ i₀ is_first i = i ≤ 64
 
 abbrev decreases-loop : tie.decreases-loop
-decreases-loop self is-first₀ i₀ is-first i = 64 - i
+decreases-loop self is-first₀ i₀ is_first i = 64 - i
 
 loop-holds : tie.Need-loop-init invariant-loop decreases-loop
 loop-holds c = search rules
