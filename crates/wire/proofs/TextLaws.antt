@@ -1,6 +1,5 @@
 -- Text as document 01 has it and the computed test agree; strings; and one turn of each loop that reads text.
 -- Assumes nothing.
-use denote.Slice.{shr_slice_at}
 use mathlib.Core.Path.{◌≡◌, refl, sym, ap, ◌∙◌}
 use Prim.Native.Nat.{ℕ, zero, suc, ◌+◌, ◌-◌, ◌≤◌, ◌<◌}
 use native.Mathlib.Omega.{arith}
@@ -113,8 +112,8 @@ take_of_drop (suc k) m [] = rw (suc-add k m, take-nil m)
 take_of_drop (suc k) m (x ∷ l) = rw (suc-add k m) (take_of_drop k m l)
 
 module _ (p : List ℕ) (from end : ℕ) (h : from ≤ end) (in_p : end ≤ length p) where
-  shr_slice_at : (i : ℕ) → from + i < end → get_or (slice from end p) i 0 ≡ get_or p (from + i) 0
-  shr_slice_at i k = get_or-drop from (take end p) i 0 ∙ get_or-take end p (from + i) 0 k
+  slice_at : (i : ℕ) → from + i < end → get_or (slice from end p) i 0 ≡ get_or p (from + i) 0
+  slice_at i k = get_or-drop from (take end p) i 0 ∙ get_or-take end p (from + i) 0 k
 
   inner_slice : 4 ≤ end - from → take (end - from - 4) (drop 3 (slice from end p)) ≡ slice (from + 3) (end - 1) p
   inner_slice k =
@@ -137,10 +136,10 @@ module _ (p : List ℕ) (from end : ℕ) (h : from ≤ end) (in_p : end ≤ leng
           let k = leb-true 4 (end - from) e in
           let z : from + (end - from - 1) ≡ end - 1 = omega arith in
           rw (
-            shr_slice_at 0 (omega arith),
-            shr_slice_at 1 (omega arith),
-            shr_slice_at 2 (omega arith),
-            shr_slice_at (end - from - 1) (omega arith),
+            slice_at 0 (omega arith),
+            slice_at 1 (omega arith),
+            slice_at 2 (omega arith),
+            slice_at (end - from - 1) (omega arith),
             inner_slice k,
             add-zero from,
             z,
