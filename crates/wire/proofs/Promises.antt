@@ -1,22 +1,7 @@
 -- The promises of specs/Promises.antt, each by the law that shows it.
 -- Assumes nothing.
 use mathlib.Core.Path.{sym, ◌∙◌}
-use Rattle.wire.specs.Promises.{
-  NumberReadBack,
-  BytesWrittenBack,
-  FirstByteHighest,
-  SignedReadBack,
-  TagParts,
-  TagReadBack,
-  NumberKinds,
-  LengthedKinds,
-  TextIs,
-  TextDecided,
-  StringReadBack,
-  StringParts,
-  VerdictsDiffer,
-  OneResult,
-}
+use Rattle.wire.specs.Promises.{NumberReadBack, BytesWrittenBack, FirstByteHighest, SignedReadBack, TagParts, TagReadBack, NumberKinds, LengthedKinds, TextDecided, StringReadBack, StringParts, VerdictsDiffer, OneResult}
 use Rattle.wire.proofs.NumberLaws.{number_back, bytes_back, get_d_number_bytes, signed_twos}
 use Rattle.wire.proofs.TagLaws.{tag_reserved, tag_wire, tag_ident, tag_back}
 use Rattle.wire.proofs.KindLaws.{number_fixed, lengthed_fits}

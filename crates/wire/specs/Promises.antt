@@ -1,5 +1,5 @@
 -- What this crate promises, a statement under each sentence. The proofs cite them in proofs/Promises.antt, in the same order.
-use Rattle.std.specs.Prelude.{◌≡◌, ℕ, ◌+◌, ◌-◌, ◌/◌, ◌%◌, ◌^◌, ◌≤◌, ◌<◌, true, List, length, get_or, leb, ℤ}
+use Rattle.std.specs.Prelude.{◌≡◌, ℕ, ◌-◌, ◌/◌, ◌%◌, ◌^◌, ◌≤◌, ◌<◌, true, List, length, get_or, leb, ℤ}
 use Rattle.wire.specs.Number.{AreBytes, big, number_of, number_bytes, signed_of, twos_of, Within}
 use Rattle.wire.specs.Tag.{reserved_of, wire_of, ident_of, tag_of, tag_bytes, fixed_size}
 use Rattle.wire.specs.Kind.{size_of, wire_fits}
