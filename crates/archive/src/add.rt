@@ -16,7 +16,7 @@ use wire::{number, part};
 const WRITTEN: Form = Form::One;
 
 // The answer to adding and closing: the verdict, and the records' or the file's new size, 0 on refusal.
-#[derive(Drop)]
+#[derive(Clone, Copy)]
 pub struct Kept {
     pub verdict: Verdict,
     pub size: usize,

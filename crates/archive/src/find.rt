@@ -15,7 +15,7 @@ use wire::part::Part;
 use wire::{header, number, part};
 
 // The answer to reading and finding: the record's number from 1, and its message as a part of the file; 0 and empty on refusal.
-#[derive(Drop)]
+#[derive(Clone, Copy)]
 pub struct Found {
     pub verdict: Verdict,
     pub number: usize,

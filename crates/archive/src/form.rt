@@ -4,7 +4,7 @@ ghost use Rattle.std.specs.Prelude.{◌≡◌};
 ghost use Rattle.archive.specs.Form.{form_number, offset_width, entry_size, limit};
 
 // A form that is read and written.
-#[derive(Drop)]
+#[derive(Clone, Copy)]
 pub enum Form {
     One,
 }

@@ -13,7 +13,7 @@ use super::{form, records};
 use wire::{header, number};
 
 // The answer to opening: the records' size and the number of entries, both 0 on refusal.
-#[derive(Drop)]
+#[derive(Clone, Copy)]
 pub struct Opening {
     pub verdict: Verdict,
     pub size: usize,

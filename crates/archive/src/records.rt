@@ -15,7 +15,7 @@ use wire::{header, number};
 pub const MESSAGE_MOST: usize = 65535;
 
 // Whether bytes are whole records of messages, and how many; 0 where they aren't.
-#[derive(Drop)]
+#[derive(Clone, Copy)]
 pub struct Walked {
     pub whole: bool,
     pub count: usize,

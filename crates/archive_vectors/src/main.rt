@@ -25,7 +25,7 @@ const OPEN: u8 = 3;
 const READ: u8 = 4;
 
 // The answer to a case but for the file's bytes: a verdict's number and three numbers, 0 where an operation has no such.
-#[derive(Drop)]
+#[derive(Clone, Copy)]
 struct Answer {
     verdict: u8,
     first: u64,

@@ -11,7 +11,7 @@ use wire::verdict::{ReturnCode, Verdict};
 
 // What the caller expects of a header. `kind` is the Message Type.
 #[repr(C)]
-#[derive(Drop)]
+#[derive(Clone, Copy)]
 pub struct Expectation {
     pub service: u16,
     pub method: u16,
@@ -22,7 +22,7 @@ pub struct Expectation {
 // The answer to a reading: verdict and its return code, or 256 where it has none; place and count; what the header hands on; and the parts of
 // the datagram, each as the place of its first byte and its length.
 #[repr(C)]
-#[derive(Drop)]
+#[derive(Clone, Copy)]
 pub struct Answer {
     pub verdict: u32,
     pub code: u32,
@@ -39,7 +39,7 @@ pub struct Answer {
 
 // The fields of a header to write: all but Length and Protocol Version. `kind` is the Message Type.
 #[repr(C)]
-#[derive(Drop)]
+#[derive(Clone, Copy)]
 pub struct Fields {
     pub service: u16,
     pub method: u16,
@@ -52,7 +52,7 @@ pub struct Fields {
 
 // The answer to a writing: the verdict, and the message's length, 0 on refusal.
 #[repr(C)]
-#[derive(Drop)]
+#[derive(Clone, Copy)]
 pub struct Sent {
     pub verdict: u32,
     pub len: usize,

@@ -12,7 +12,7 @@ use wire::number;
 pub const NUMBERS: usize = 4;
 
 // A value row as numbers: what the value is, its number or bits, and the place and length of a run.
-#[derive(Drop)]
+#[derive(Clone, Copy)]
 struct Numbers {
     what: u64,
     number: u64,

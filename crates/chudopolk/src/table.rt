@@ -12,7 +12,7 @@ const NUMBERS: usize = 5;
 // A type table beside its rows: how many there are, the width of length fields, and 1 where the writer uses the static wire type or 0 where
 // it tells the width in the tag.
 #[repr(C)]
-#[derive(Drop)]
+#[derive(Clone, Copy)]
 pub struct Form {
     pub count: usize,
     pub width: u32,

@@ -4,7 +4,7 @@ use super::message_type::MessageType;
 use wire::id::{ClientId, MethodId, ServiceId, SessionId};
 
 // All fields but Length and Protocol Version.
-#[derive(Drop)]
+#[derive(Clone, Copy)]
 pub struct Header {
     pub service: ServiceId,
     pub method: MethodId,

@@ -4,7 +4,7 @@ ghost use Rattle.std.specs.Prelude.{◌≡◌};
 ghost use Rattle.message.specs.MessageType.{is_one};
 
 // A number in a header's place of the Message Type.
-#[derive(Drop)]
+#[derive(Clone, Copy)]
 pub struct MessageType(pub u8);
 
 impl MessageType {

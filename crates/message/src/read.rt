@@ -14,7 +14,7 @@ use wire::verdict::Verdict;
 use wire::{header, number};
 
 // What the caller expects of a header.
-#[derive(Drop)]
+#[derive(Clone, Copy)]
 pub struct Expected {
     pub service: ServiceId,
     pub method: MethodId,
@@ -23,7 +23,7 @@ pub struct Expected {
 }
 
 // What a header hands on as found, and the parts of the datagram. `found_code` is the header's Return Code; the verdict's is another thing.
-#[derive(Drop)]
+#[derive(Clone, Copy)]
 pub struct Head {
     pub client: ClientId,
     pub session: SessionId,
@@ -33,7 +33,7 @@ pub struct Head {
 }
 
 // The answer to a message: what the header hands on, and the payload's reading, whose verdict is the message's.
-#[derive(Drop)]
+#[derive(Clone, Copy)]
 pub struct MessageReading {
     pub head: Head,
     pub reading: Reading,
@@ -41,7 +41,7 @@ pub struct MessageReading {
 
 // What is known of a message before its payload is read: why it is refused, or Accepted; how many lent rows are set; and where its payload
 // begins and ends, both 0 where the header wasn't looked at.
-#[derive(Drop)]
+#[derive(Clone, Copy)]
 pub struct Opening {
     pub why: Verdict,
     pub filled: usize,

@@ -14,7 +14,7 @@ use payload::write::Written;
 use wire::verdict::Verdict;
 
 // The answer to a message whose rows are lent: the verdict, its place, the count of skipped members, and what the header hands on.
-#[derive(Drop)]
+#[derive(Clone, Copy)]
 pub struct Answered {
     pub head: Head,
     pub verdict: Verdict,
@@ -64,7 +64,7 @@ pub fn read_message(d: &[u8], e: Expected, t: Table, rows: &mut [Row]) -> Answer
 }
 
 // An array of absent rows, and how many lent rows it can take.
-#[derive(Drop)]
+#[derive(Clone, Copy)]
 pub struct Blank {
     pub rows: [Row; 64],
     pub n: usize,

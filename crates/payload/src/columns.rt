@@ -12,7 +12,7 @@ use wire::{kind, number};
 
 // What the passes keep of a value row: its number, or the place of its run; and one more than the bytes of its content, but for a struct's
 // members, or 0 where the row is absent.
-#[derive(Drop)]
+#[derive(Clone, Copy)]
 pub struct Held {
     pub num: u64,
     pub size: usize,

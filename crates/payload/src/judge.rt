@@ -11,7 +11,7 @@ use super::{columns, table};
 use wire::{kind, number, text};
 
 // What judging the rows gives: all are fine, a run lies outside the content buffer, or a value does not fit.
-#[derive(Drop)]
+#[derive(Clone, Copy)]
 pub enum Judged {
     Fine,
     Outside,

@@ -14,7 +14,7 @@ use wire::verdict::Verdict;
 use wire::{kind, number, tag, text};
 
 // A level: its first row, where its rows stop, its number, its end; and the table's count and width.
-#[derive(Drop)]
+#[derive(Clone, Copy)]
 pub struct Frame {
     pub first: usize,
     pub stop: usize,
@@ -24,21 +24,21 @@ pub struct Frame {
     pub width: usize,
 }
 
-#[derive(Drop)]
+#[derive(Clone, Copy)]
 pub struct Span {
     pub from: usize,
     pub end: usize,
 }
 
 // A content, or a verdict and its place.
-#[derive(Drop)]
+#[derive(Clone, Copy)]
 pub enum Content {
     In(Span),
     Cut(Verdict, usize),
 }
 
 // A known member: its row, what is kept of it, and its content.
-#[derive(Drop)]
+#[derive(Clone, Copy)]
 pub struct Spot {
     pub row: usize,
     pub word: u64,
@@ -48,7 +48,7 @@ pub struct Spot {
 }
 
 // What stands at a place of a level: a refusal and its place; an unknown member, which ends at a place; a known one; a struct.
-#[derive(Drop)]
+#[derive(Clone, Copy)]
 pub enum Member {
     Bad(Verdict, usize),
     Unknown(usize),

@@ -18,7 +18,7 @@ pub const PAYLOAD_MOST: usize = 1400;
 
 // The answer to a reading: the verdict, its place, the count of skipped members, how many of the lent rows are set, and those rows. Rows
 // beyond are absent.
-#[derive(Drop)]
+#[derive(Clone, Copy)]
 pub struct Reading {
     pub verdict: Verdict,
     pub place: usize,
@@ -28,7 +28,7 @@ pub struct Reading {
 }
 
 // How a reading ended: its verdict, place and counts, and how many rows are kept. Rows beyond are absent.
-#[derive(Drop)]
+#[derive(Clone, Copy)]
 pub struct Ending {
     pub verdict: Verdict,
     pub place: usize,
@@ -38,20 +38,20 @@ pub struct Ending {
 }
 
 // Why a reading is refused before its payload is looked at, or Accepted, and how many of the lent rows are set.
-#[derive(Drop)]
+#[derive(Clone, Copy)]
 pub struct Admission {
     pub why: Verdict,
     pub filled: usize,
 }
 
 // Where a walk stands, and how many members it skipped.
-#[derive(Drop)]
+#[derive(Clone, Copy)]
 pub struct Cursor {
     pub at: usize,
     pub skipped: usize,
 }
 
-#[derive(Drop)]
+#[derive(Clone, Copy)]
 pub enum Walk {
     Going(Cursor),
     Refused(Verdict, usize),

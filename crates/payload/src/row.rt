@@ -1,7 +1,7 @@
 // Value rows.
 
 // What a row shows. A run of bytes is a place and a length.
-#[derive(Drop)]
+#[derive(Clone, Copy)]
 pub enum Value {
     Absent,
     Unsigned(u64),
@@ -13,7 +13,7 @@ pub enum Value {
 }
 
 // A value row. A float's bits stand beside it; they decide in comparing and writing. All other rows that a reading sets have bits 0.
-#[derive(Drop)]
+#[derive(Clone, Copy)]
 pub struct Row {
     pub value: Value,
     pub bits: u64,

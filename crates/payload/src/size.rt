@@ -8,7 +8,7 @@ use super::table;
 use wire::kind;
 
 // The bytes of the first rows from some row on, as far as they are of level 1, 2, 3 or 4 or deeper.
-#[derive(Drop)]
+#[derive(Clone, Copy)]
 pub struct Sums {
     pub one: usize,
     pub two: usize,
@@ -17,7 +17,7 @@ pub struct Sums {
 }
 
 // What the sizes give: some content is over what its length field holds, or the bytes of the payload.
-#[derive(Drop)]
+#[derive(Clone, Copy)]
 pub enum Sized {
     Wide,
     Total(usize),

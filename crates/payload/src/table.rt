@@ -12,7 +12,7 @@ const STRUCT: u8 = 14;
 use wire::number;
 
 // A type row: level 1 to 4, Data ID 0 to 4,095, kind 1 to 14, an array's element kind, and whether the row is required.
-#[derive(Drop)]
+#[derive(Clone, Copy)]
 pub struct TypeRow {
     pub level: u8,
     pub ident: u16,
@@ -23,7 +23,7 @@ pub struct TypeRow {
 
 // A type table: the first `count` of its rows, depth first; the width of its length fields; and whether the writer uses the static wire
 // type 4 or tells the width in the tag.
-#[derive(Drop)]
+#[derive(Clone, Copy)]
 pub struct Table {
     pub rows: [TypeRow; 64],
     pub count: usize,
@@ -32,7 +32,7 @@ pub struct Table {
 }
 
 // A row's index, or no row.
-#[derive(Drop)]
+#[derive(Clone, Copy)]
 pub enum Found {
     At(usize),
     Nothing,

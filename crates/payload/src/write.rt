@@ -17,7 +17,7 @@ use super::{emit, judge, read, size, table};
 use wire::verdict::Verdict;
 
 // The answer to a writing: the verdict, and the payload's length, 0 on refusal.
-#[derive(Drop)]
+#[derive(Clone, Copy)]
 pub struct Written {
     pub verdict: Verdict,
     pub len: usize,

@@ -14,7 +14,7 @@ use payload::{read, table, write};
 use state::{Line, State};
 
 // What runs of the input leave: what is set, and where the first line begins that is not whole.
-#[derive(Drop)]
+#[derive(Clone, Copy)]
 struct Ran {
     state: State,
     at: usize,

@@ -15,7 +15,7 @@ use wire::number;
 const RECORD: usize = 26;
 
 // What is set: for reading the table, the lent rows' number and the expectation; for writing header, rows and content, with their numbers.
-#[derive(Drop)]
+#[derive(Clone, Copy)]
 pub struct State {
     pub table: Table,
     pub room: usize,
@@ -181,7 +181,7 @@ pub fn start() -> State {
 }
 
 // What a line does by its label: it sets something, or is a case.
-#[derive(Drop)]
+#[derive(Clone, Copy)]
 pub enum Line {
     Table,
     Expect,
