@@ -1,0 +1,39 @@
+use mathlib.Core.Path.{◌≡◌, refl, sym, ◌∙◌}
+use mathlib.Core.Logic.{⊎_elim}
+use Prim.Native.Nat.{◌-◌}
+use native.Mathlib.Omega.{arith}
+use native.Mathlib.Numerals.{add-one}
+use Rattle.payload.proofs.Joined.{clash}
+use Rattle.payload.proofs.Walking.LackLaws.{lacks_this, lacks_next, lacks_stop}
+use Rattle.payload.proofs.read.lacks.Goals as goal
+
+pub loop-i-init : goal.loop-i-init
+loop-i-init c = (omega arith, c.requires.1.from, λ count words s. refl)
+
+pub returns-then-marks-i-eq0 : goal.returns-then-marks-i-eq0
+returns-then-marks-i-eq0 c = λ words.
+    let l = c.loop-i in
+    let s = c.requires.1 in
+    sym (l.invariant.2 c.args.f.count words s
+    ∙ lacks_this _ _ c.args.f.count _ words l.i (omega (arith, s.to, c.loop-i-test.true)) (omega arith)
+    (sym c.is_required.ensures ∙ c.if-is_required.true) c.if-marks-i-eq0.true)
+
+pub loop-i-preserved : goal.loop-i-preserved
+loop-i-preserved c =
+    let l = c.loop-i in
+    let h = c.loop-i-test.true in (
+      omega arith,
+      omega arith,
+      λ count words s.
+          rw (add-one l.i) (l.invariant.2 count words s ∙ lacks_next _ _ count _ words l.i (omega (arith, s.to)) (s.deep _ l.invariant.0 h)
+          (λ e r z.
+          ⊎_elim (λ w. w.4.left z) (⊎_elim (λ w. clash (sym w.2.left ∙ w.1.ensures ∙ r)) (λ w. w.left (c.level_in.ensures ∙ e)))
+          c.if-level_in-level.branch)),
+    )
+
+pub returns : goal.returns
+returns c = λ words.
+    let l = c.loop-i in
+    let s = c.requires.1 in
+    let z : l.i ≡ c.args.f.stop = omega arith in
+    sym (l.invariant.2 c.args.f.count words s ∙ rw z (lacks_stop _ _ c.args.f.count _ words c.args.f.stop s.shut))

@@ -1,0 +1,11 @@
+-- `payload::table::level_end` meets its contract. The loop's invariant: no row passed is above the level.
+use Prim.Native.Nat.{ℕ, ◌-◌, ◌≤◌, ◌<◌}
+use lib.ListN.{get_or}
+use Rattle.payload.specs.Cells.{level_in}
+use Rattle.payload.proofs.table.level_end.Given as goal
+
+abbrev pub invariant-loop-i : goal.invariant-loop-i
+invariant-loop-i l = (l.first ≤ l.i) × (l.i ≤ l.count) × ((j : ℕ) → l.first ≤ j → j < l.i → l.level ≤ level_in (get_or l.cells j 0))
+
+abbrev pub decreases-loop-i : goal.decreases-loop-i
+decreases-loop-i l = l.count - l.i
