@@ -1,4 +1,3 @@
-use Prim.Native.Nat.{◌-◌}
 use native.Mathlib.Omega.{arith}
 use Rattle.archive.proofs.FormLaws.{limit_small, width_most}
 use Rattle.archive.proofs.FindLaws.{seek_small, seek_start, seek_end, seek_in, seek_hit, seek_on}

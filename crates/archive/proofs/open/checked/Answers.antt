@@ -16,7 +16,7 @@ returns-then-not-w c =
 pub returns-then-w-n : goal.returns-then-w-n
 returns-then-w-n c =
     c.refuse-then-w-n.ensures
-    ∙ check_count _ (λ c. (c.type_inv.file c).ranges) _ _ _ _ c.requires _ c.walk-w.ensures
+    ∙ check_count _ (λ k. (c.type_inv.file k).fits) _ _ _ _ c.requires _ c.walk-w.ensures
     (not-false _ c.if-not-w.false) c.if-w-n.true
 
 pub overflow_mul-entry_size : goal.overflow_mul-entry_size
@@ -32,23 +32,23 @@ overflow_add-size c =
 pub returns-then-size-entry_size : goal.returns-then-size-entry_size
 returns-then-size-entry_size c =
     c.refuse-then-size-entry_size.ensures
-    ∙ check_end _ (λ c. (c.type_inv.file c).ranges) _ _ _ _ c.requires _ c.walk-w.ensures
+    ∙ check_end _ (λ k. (c.type_inv.file k).fits) _ _ _ _ c.requires _ c.walk-w.ensures
     (not-false _ c.if-not-w.false) c.if-w-n.false _ c.entry_size.ensures c.if-size-entry_size.true
 
 pub index_agrees-requires : goal.index_agrees-requires
 index_agrees-requires c =
-    check_told _ (λ c. (c.type_inv.file c).ranges) _ _ _ _ c.requires _ c.walk-w.ensures
+    check_told _ (λ k. (c.type_inv.file k).fits) _ _ _ _ c.requires _ c.walk-w.ensures
     (not-false _ c.if-not-w.false) c.if-w-n.false _ c.entry_size.ensures c.if-size-entry_size.false
 
 pub returns-then-not-index_agrees : goal.returns-then-not-index_agrees
 returns-then-not-index_agrees c =
     c.refuse-then-not-index_agrees.ensures
-    ∙ check_index _ (λ c. (c.type_inv.file c).ranges) _ _ _ _ c.requires _ c.walk-w.ensures
+    ∙ check_index _ (λ k. (c.type_inv.file k).fits) _ _ _ _ c.requires _ c.walk-w.ensures
     (not-false _ c.if-not-w.false) c.if-w-n.false _ c.entry_size.ensures c.if-size-entry_size.false
     _ c.index_agrees.ensures (not-true _ c.if-not-index_agrees.true-raw)
 
 pub returns : goal.returns
 returns c =
-    check_all _ (λ c. (c.type_inv.file c).ranges) _ _ _ _ c.requires _ c.walk-w.ensures
+    check_all _ (λ k. (c.type_inv.file k).fits) _ _ _ _ c.requires _ c.walk-w.ensures
     (not-false _ c.if-not-w.false) c.if-w-n.false _ c.entry_size.ensures c.if-size-entry_size.false
     _ c.index_agrees.ensures (not-false _ c.if-not-index_agrees.false-raw)

@@ -1,5 +1,4 @@
 use mathlib.Core.Path.{sym, ◌∙◌}
-use Prim.Native.Nat.{◌-◌}
 use native.Mathlib.Omega.{arith}
 use borrow.Author.Tests.{not-true, not-false}
 use Rattle.archive.proofs.AgreeLaws.{going_start, going_end, record_sized, entry_room, going_no, going_on}
@@ -38,7 +37,7 @@ loop-at-smaller c =
 
 pub loop-at-preserved : goal.loop-at-preserved
 loop-at-preserved c =
-    going_on _ _ _ _ c.requires _ _ c.loop-at.invariant c.loop-at-test.true (λ c. (c.type_inv.file c).ranges)
+    going_on _ _ _ _ c.requires _ _ c.loop-at.invariant c.loop-at-test.true (λ k. (c.type_inv.file k).fits)
     (sym c.entry_agrees.ensures ∙ not-false _ c.if-not-entry_agrees.false-raw) _ _ c.size_at-at.ensures c.entry_size-to.ensures
 
 pub returns : goal.returns
