@@ -1,7 +1,7 @@
 -- The members of each level in any order: as many bytes, known as before, and each path finds the same.
 -- Assumes nothing.
 use mathlib.Core.Path.{◌≡◌, refl, sym, ap, ap₂, ◌∙◌}
-use Prim.Native.Nat.{ℕ, ◌+◌}
+use Prim.Native.Nat.{suc, ℕ, ◌+◌}
 use native.Mathlib.Omega.{arith}
 use mathlib.Core.Bool.{Bool, true, false}
 use mathlib.Core.List.{List, [], ◌∷◌}
@@ -144,7 +144,7 @@ reordered_known {width} {types} {l} {first} (within {tag} {s} {c} {inner} {inner
     rw e (known_leaf fr hc (known_re types l first tag k after after2 q known) ns fits (reordered_known q h))
 reordered_known {width} {types} {l} {first} (within {tag} {s} {c} {inner} {inner2} {after} {after2} r q) (known_struct {k = k} fr known is i h) =
     known_struct (framed_re width tag (bytes_of width inner) (bytes_of width inner2) (reordered_length width r) fr)
-    (known_re types l first tag k after after2 q known) is (reordered_known r i) (reordered_known q h)
+    (known_re types l first tag k after after2 q known) is (reordered_known {l = suc l} {first = suc (first + k)} r i) (reordered_known q h)
 reordered_known (again r q) h = reordered_known q (reordered_known r h)
 
 -- ---- each path finds the same
@@ -177,6 +177,6 @@ reordered_paths (swapped {tag} {tag2}) h (x ∷ path) = swap_picks x (ident_of t
 reordered_paths (within r q) h [] = refl
 reordered_paths (within {tag} {inner2 = inner2} r q) (known_leaf {c = c} fr hc known ns fits h) (x ∷ path) =
     ap (pick (eqb (ident_of tag) x) (at_end path (leaf c) nothing)) (reordered_paths q h (x ∷ path))
-reordered_paths (within {tag} r q) (known_struct fr known is i h) (x ∷ path) =
-    ap₂ (λ (u v : Put). pick (eqb (ident_of tag) x) (at_end path branch u) v) (reordered_paths r i path) (reordered_paths q h (x ∷ path))
+reordered_paths {l = l} {first = first} (within {tag} r q) (known_struct {k = k} fr known is i h) (x ∷ path) =
+    ap₂ (λ (u v : Put). pick (eqb (ident_of tag) x) (at_end path branch u) v) (reordered_paths {l = suc l} {first = suc (first + k)} r i path) (reordered_paths q h (x ∷ path))
 reordered_paths (again r q) h path = reordered_paths r h path ∙ reordered_paths q (reordered_known r h) path

@@ -130,7 +130,7 @@ module _ (buf p : List ℕ) (r : TypeRow) (v : Row) where
         absurd (shown_leaf r place c few ns (ap (λ (x : Row). x.value) e))
 
     -- what another row of its kind shows, of another payload
-    carried_shown : {o : Put} {new : Row} (p2 : List ℕ) (r2 : TypeRow) → r.kind ≡ r2.kind → Carried buf p r v o → Shows p2 r2 absent_row o new
+    carried_shown : {o : Put} (p2 : List ℕ) (r2 : TypeRow) {new : Row} → r.kind ≡ r2.kind → Carried buf p r v o → Shows p2 r2 absent_row o new
         → Same buf p2 v new
     carried_shown p2 r2 ek (carried_nothing e) shows_nothing = rw e same_absent
     carried_shown p2 r2 ek (carried_branch e) shows_branch = rw e same_members

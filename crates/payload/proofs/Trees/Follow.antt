@@ -98,21 +98,21 @@ follow_walk {width} {types} {l} {first} {place} (to_skip {tag = tag} {c = c} {af
     let y : List ℕ = bytes_of width after in
     walk_skip turns width types l first place (member_bytes width tag c ++ y) rows n _ y
     (step_member width types l first place tag c y rows fr ∙ rw e (met_none types first (wire_of tag) place _ c _ y rows))
-    ∙ follow_walk f turns (suc n) (shorter width tag c y turns h).1 ∙ ap (walked rows2) (omega arith)
+    ∙ follow_walk {place = content_at width tag place + length c} f turns (suc n) (shorter width tag c y turns h).1 ∙ ap (walked rows2) (omega arith)
 follow_walk {width} {types} {l} {first} {place}
     (to_leaf {tag = tag} {k = k} {c = c} {after = after} {rows = rows} fr hc e w ab s fits f) (suc turns) n h =
     let y : List ℕ = bytes_of width after in
     walk_leaf turns width types l first place (member_bytes width tag c ++ y) rows n _ _ _ y
     (step_member width types l first place tag c y rows fr ∙ rw e (met_leaf types first (wire_of tag) place _ c _ y rows k w ab s fits))
-    ∙ follow_walk f turns n (shorter width tag c y turns h).1
+    ∙ follow_walk {place = content_at width tag place + length c} f turns n (shorter width tag c y turns h).1
 follow_walk {width} {types} {l} {first} {place}
     (to_struct {tag = tag} {k = k} {inner = inner} {after = after} {rows = rows} {rows2 = rows2} fr e w ab s fi f) (suc turns) n h =
     let c : List ℕ = bytes_of width inner in
     let y : List ℕ = bytes_of width after in
     walk_in_lem turns width types l first place (member_bytes width tag c ++ y) rows n _ _ c _ y
     (step_member width types l first place tag c y rows fr ∙ rw e (met_struct types first (wire_of tag) place _ c _ y rows k w ab s))
-    _ _ (follow_walk fi turns n (shorter width tag c y turns h).0)
-    ∙ follow_walk f turns _ (shorter width tag c y turns h).1 ∙ ap (walked rows2) (omega arith)
+    _ _ (follow_walk {l = suc l} {first = suc (first + k)} {place = content_at width tag place} fi turns n (shorter width tag c y turns h).0)
+    ∙ follow_walk {place = content_at width tag place + length c} f turns _ (shorter width tag c y turns h).1 ∙ ap (walked rows2) (omega arith)
 
 -- ---- from the walk to the tree
 

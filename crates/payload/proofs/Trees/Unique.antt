@@ -78,16 +78,16 @@ tree_again f zero h = absurd (omega arith)
 tree_again each_stop (suc turns) h = refl
 tree_again {width} {types} {l} {first} (each_unknown {tag = tag} {c = c} {after = after} fr hc e ea) (suc turns) h =
     let y : List ℕ = bytes_of width after in
-    tree_unknown turns width types l first tag c y fr e ∙ ap (mem tag false c stop) (tree_again ea turns (shorter width tag c y turns h).1)
+    tree_unknown turns width types l first tag c y fr e ∙ ap (mem tag false c stop) (tree_again {m = after} ea turns (shorter width tag c y turns h).1)
 tree_again {width} {types} {l} {first} (each_leaf {tag = tag} {k = k} {c = c} {after = after} fr hc known ns fits ea) (suc turns) h =
     let y : List ℕ = bytes_of width after in
     tree_leaf turns width types l first tag c y fr k known.found ns
-    ∙ ap (mem tag false c stop) (tree_again ea turns (shorter width tag c y turns h).1)
+    ∙ ap (mem tag false c stop) (tree_again {m = after} ea turns (shorter width tag c y turns h).1)
 tree_again {width} {types} {l} {first} (each_struct {tag = tag} {k = k} {inner = inner} {after = after} fr known is ei wi ea) (suc turns) h =
     let c : List ℕ = bytes_of width inner in
     let y : List ℕ = bytes_of width after in
     tree_struct turns width types l first tag c y fr k known.found is
-    ∙ ap₂ (mem tag true []) (tree_again ei turns (shorter width tag c y turns h).0) (tree_again ea turns (shorter width tag c y turns h).1)
+    ∙ ap₂ (mem tag true []) (tree_again {l = suc l} {first = suc (first + k)} {m = inner} ei turns (shorter width tag c y turns h).0) (tree_again {m = after} ea turns (shorter width tag c y turns h).1)
 
 -- ---- so bytes have one tree
 

@@ -6,6 +6,7 @@ use native.Mathlib.Numerals.{add-one}
 use Rattle.payload.proofs.Joined.{clash}
 use Rattle.payload.proofs.Walking.LackLaws.{lacks_this, lacks_next, lacks_stop}
 use Rattle.payload.proofs.read.lacks.Goals as goal
+use Rattle.payload.proofs.read.lacks.Goals.{then-level_in-level+then-is_required+else-marks-i-eq0, then-level_in-level+else-is_required, else-level_in-level}
 
 pub loop-i-init : goal.loop-i-init
 loop-i-init c = (omega arith, c.requires.1.from, λ count words s. refl)
@@ -27,8 +28,11 @@ loop-i-preserved c =
       λ count words s.
           rw (add-one l.i) (l.invariant.2 count words s ∙ lacks_next _ _ count _ words l.i (omega (arith, s.to)) (s.deep _ l.invariant.0 h)
           (λ e r z.
-          ⊎_elim (λ w. w.4.left z) (⊎_elim (λ w. clash (sym w.2.left ∙ w.1.ensures ∙ r)) (λ w. w.left (c.level_in.ensures ∙ e)))
-          c.if-level_in-level.branch)),
+          elim c.if-level_in-level.branch [
+            | then-level_in-level+then-is_required+else-marks-i-eq0 w ↦ w.if-marks-i-eq0.false z
+            | then-level_in-level+else-is_required w ↦ clash (sym w.if-is_required.false ∙ w.is_required.ensures ∙ r)
+            | else-level_in-level w ↦ w.if-level_in-level.false (c.level_in.ensures ∙ e)
+          ])),
     )
 
 pub returns : goal.returns

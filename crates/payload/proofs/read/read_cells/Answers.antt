@@ -17,8 +17,8 @@ read_level-requires c =
 
 pub returns-in-Refused : goal.returns-in-Refused
 returns-in-Refused c =
-    read_refused _ _ _ _ _ _ _ _ _ c.requires.2 c.requires.3 c.read_level.ensures _ _ c.why-1.given.1 _ c.stop.ensures
+    read_refused _ _ _ _ _ _ _ _ _ c.requires.2 c.requires.3 c.read_level.ensures _ _ c.in-Refused.is _ c.stop.ensures
 
 pub returns-in-Going : goal.returns-in-Going
 returns-in-Going c =
-    read_accepted _ _ _ _ _ _ _ _ _ c.requires.2 c.requires.3 c.read_level.ensures _ c.c-1.given.1 c.requires.0 _ refl
+    read_accepted _ _ _ _ _ _ _ _ _ c.requires.2 c.requires.3 c.read_level.ensures _ c.in-Going.is c.requires.0 _ refl

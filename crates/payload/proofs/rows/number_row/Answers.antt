@@ -23,7 +23,7 @@ pub returns-then-k-lt10 : goal.returns-then-k-lt10
 unfolding number_row signed_of
 returns-then-k-lt10 c =
     c.plain-then-k-lt10.ensures
-    ∙ rw (to_z-of_z (sfits_of c.signed_of.type-inv), c.signed_of.ensures, c.half_of.ensures.0)
+    ∙ rw (to_z-of_z (sfits_of c.signed_of.type_inv), c.signed_of.ensures, c.half_of.ensures.0)
     (simp (ne_eqb _ _ c.if-k-eq-BOOLEAN.false, le-ltb _ _ c.if-k-lt6.false, lt-ltb _ _ c.if-k-lt10.true))
 
 pub overflow_cast-v : goal.overflow_cast-v

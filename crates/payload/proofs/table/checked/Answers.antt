@@ -14,10 +14,6 @@ use Rattle.payload.proofs.table.checked.Goals as goal
 of_map : (X Y : Type 0) (f : X → Y) (l : List X) (n : ℕ) → length (map f l) ≡ n → length l ≡ n
 of_map X Y f l n e = sym (length-map l f) ∙ e
 
--- a table has 64 rows
-long : (c : tie.Start invariant-loop-i decreases-loop-i) → length c.args.t1.rows ≡ 64
-long c = search (rules, of_map)
-
 pub returns-then-n-eq0 : goal.returns-then-n-eq0
 returns-then-n-eq0 c = refuse _ _ c.requires (λ k. omega (arith, k.some, c.if-n-eq0.true))
 
@@ -34,7 +30,7 @@ pub row_fits-requires : goal.row_fits-requires
 row_fits-requires c = omega (arith, c.loop-i.invariant.most_in)
 
 pub returns-then-not-row_fits : goal.returns-then-not-row_fits
-returns-then-not-row_fits c = passed_stop _ (long c) _ _ _ _ _ _ c.loop-i.invariant c.if-n-gt64.false c.loop-i-test.true (sym c.row_fits.ensures ∙ not-true _ c.if-not-row_fits.true-raw)
+returns-then-not-row_fits c = passed_stop _ (search (rules, of_map)) _ _ _ _ _ _ c.loop-i.invariant c.if-n-gt64.false c.loop-i-test.true (sym c.row_fits.ensures ∙ not-true _ c.if-not-row_fits.true-raw)
 
 pub packed-requires : goal.packed-requires
 packed-requires c = fine_row _ (fits_rules _ _ (sym c.row_fits.ensures ∙ not-false _ c.if-not-row_fits.false-raw)).0
@@ -71,16 +67,16 @@ loop-i-smaller c = omega arith
 
 pub loop-i-preserved : goal.loop-i-preserved
 loop-i-preserved c =
-    passed_next _ (long c) _ _ _ _ _ _ c.loop-i.invariant c.if-n-gt64.false c.loop-i-test.true (sym c.row_fits.ensures ∙ not-false _ c.if-not-row_fits.false-raw) _ c.level_most-most.ensures _ c.packed.ensures
+    passed_next _ (search (rules, of_map)) _ _ _ _ _ _ c.loop-i.invariant c.if-n-gt64.false c.loop-i-test.true (sym c.row_fits.ensures ∙ not-false _ c.if-not-row_fits.false-raw) _ c.level_most-most.ensures _ c.packed.ensures
     _ _ c.index-l.ensures c.wide16-id.ensures _ c.rises-rising.ensures
 
 pub returns-then-rising : goal.returns-then-rising
 returns-then-rising c =
-    answer_rising _ (long c) _ _ _ _ _ _ c.loop-i.invariant c.if-n-gt64.false c.loop-i-test.false (omega (arith, c.if-n-eq0.false)) (sym c.width_fits.ensures ∙ not-false _ c.if-not-width_fits.false-raw) refl c.if-rising.true
+    answer_rising _ (search (rules, of_map)) _ _ _ _ _ _ c.loop-i.invariant c.if-n-gt64.false c.loop-i-test.false (omega (arith, c.if-n-eq0.false)) (sym c.width_fits.ensures ∙ not-false _ c.if-not-width_fits.false-raw) refl c.if-rising.true
 
 pub idents_differ-requires : goal.idents_differ-requires
-idents_differ-requires c = all_fine _ (long c) _ _ _ _ _ _ c.loop-i.invariant c.if-n-gt64.false c.loop-i-test.false
+idents_differ-requires c = all_fine _ (search (rules, of_map)) _ _ _ _ _ _ c.loop-i.invariant c.if-n-gt64.false c.loop-i-test.false
 
 pub returns : goal.returns
 returns c =
-    answer_differ _ (long c) _ _ _ _ _ _ c.loop-i.invariant c.if-n-gt64.false c.loop-i-test.false (omega (arith, c.if-n-eq0.false)) (sym c.width_fits.ensures ∙ not-false _ c.if-not-width_fits.false-raw) _ c.idents_differ.ensures
+    answer_differ _ (search (rules, of_map)) _ _ _ _ _ _ c.loop-i.invariant c.if-n-gt64.false c.loop-i-test.false (omega (arith, c.if-n-eq0.false)) (sym c.width_fits.ensures ∙ not-false _ c.if-not-width_fits.false-raw) _ c.idents_differ.ensures

@@ -7,8 +7,8 @@ use Rattle.payload.proofs.table.find_key.Given as goal
 
 abbrev pub invariant-loop-i : goal.invariant-loop-i
 invariant-loop-i l =
-    (l.first ≤ l.i) × (l.i ≤ l.stop) × ((l x : ℕ) → l < 16 → l.key ≡ x * 16 + l → ((j : ℕ) → l.first ≤ j → j < l.stop → l ≤ level_in (get_or l.cells j 0))
-    → search_at l.stop l.cells l x l.first ≡ search_at l.stop l.cells l x l.i)
+    (l.first ≤ l.i) × (l.i ≤ l.stop) × ((v x : ℕ) → v < 16 → l.key ≡ x * 16 + v → ((j : ℕ) → l.first ≤ j → j < l.stop → v ≤ level_in (get_or l.cells j 0))
+    → search_at l.stop l.cells v x l.first ≡ search_at l.stop l.cells v x l.i)
 
 abbrev pub decreases-loop-i : goal.decreases-loop-i
 decreases-loop-i l = l.stop - l.i

@@ -1,6 +1,5 @@
--- `table_fits_lem` meets its contract.
+-- `payload::table::table_fits` meets its contract.
 use mathlib.Core.Path.{refl}
-use Rattle.payload.proofs.table.table_fits_lem.Tie as tie
 use Rattle.payload.proofs.table.table_fits.Goals as goal
 
 pub checked-requires : goal.checked-requires
