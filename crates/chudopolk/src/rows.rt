@@ -2,7 +2,7 @@
 
 ghost use Rattle.std.specs.Prelude.{◌≡◌, ◌++◌, ◌+◌, ◌*◌, ◌≤◌, ◌<◌, length, take, drop};
 ghost use Rattle.std.proofs.lemmas.List.Edits.{sets};
-ghost use Rattle.payload.specs.Row.{plain as plainRow, absent_row};
+ghost use Rattle.payload.specs.Row.{plain as plain_row, absent_row};
 ghost use Rattle.chudopolk.specs.Rows.{numbers_of, listed, flat, float32_row, float64_row, row_of, row_at, lent_of, rows_up_to, rows_of};
 
 use payload::row::{Row, Value};
@@ -79,7 +79,7 @@ pub fn put_rows(out: &mut [u64], rows: [Row; 64], n: usize)
 
 // A row whose value has no bits beside it.
 fn plain(v: Value) -> Row
-    ensures { result ≡ plainRow v }
+    ensures { result ≡ plain_row v }
 {
     Row { value: v, bits: 0 }
 }

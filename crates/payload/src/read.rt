@@ -4,7 +4,7 @@
 ghost use Rattle.std.specs.Prelude.{◌≡◌, List, ℕ, ◌+◌, ◌≤◌, ◌<◌, length, set, drop, replicate};
 ghost use Rattle.payload.specs.Cells.{table_in, FineTable, Stops};
 ghost use Rattle.payload.specs.Reading.{answer_of, walked_of, checked_of, reading_of};
-ghost use Rattle.payload.specs.Reading.{lacks as lacksOf};
+ghost use Rattle.payload.specs.Reading.{lacks as lacks_of};
 ghost use Rattle.payload.specs.Walking.{kept, inner_of, Ready, LevelRead, MemberRead, stop_at, Ended, after_of, Admits, Admitted};
 
 use super::member::{Frame, Member, Spot};
@@ -87,7 +87,7 @@ fn inner(cells: &[u64; 64], f: Frame, s: Spot) -> Frame
 // Whether a required row of a level was not met.
 fn lacks(cells: &[u64; 64], marks: &[usize; 64], f: Frame) -> bool
     requires { (f.count ≤ 64) × Stops cells.now f.first f.stop f.count f.level }
-    ensures { (words : List ℕ) → result ≡ lacksOf f.level (drop f.first (table_in f.count cells.now))
+    ensures { (words : List ℕ) → result ≡ lacks_of f.level (drop f.first (table_in f.count cells.now))
         (drop f.first (kept (table_in f.count cells.now) words marks.now)) }
 {
     let n = f.stop;

@@ -3,7 +3,7 @@
 ghost use Rattle.std.specs.Prelude.{◌≡◌, ◌+◌, ◌%◌, ◌^◌, ◌≤◌, ◌<◌};
 ghost use Rattle.wire.specs.Number.{half};
 ghost use Rattle.wire.specs.Kind.{size_of, string};
-ghost use Rattle.payload.specs.Row.{number_row, plain as plainRow};
+ghost use Rattle.payload.specs.Row.{number_row, plain as plain_row};
 ghost use Rattle.payload.specs.Walking.{kept_row};
 
 use super::row::{Row, Value};
@@ -46,7 +46,7 @@ fn low_word(k: usize, word: u64) -> u64
 
 // A row whose value has no bits beside it.
 pub fn plain(v: Value) -> Row
-    ensures { result ≡ plainRow v }
+    ensures { result ≡ plain_row v }
 {
     Row { value: v, bits: 0 }
 }
