@@ -8,9 +8,13 @@ use archive::add::Kept;
 use archive::find::Found;
 use archive::open::Opening;
 use archive::{add, find, open};
-use libc::{STDIN_FILENO as IN, STDOUT_FILENO as OUT};
 use wire::id::SessionId;
 use wire::number;
+
+// Standard input and standard output.
+const IN: i32 = 0;
+
+const OUT: i32 = 1;
 
 // More cases than an input has.
 const CASES_MOST: usize = 1000000000;
