@@ -1,7 +1,7 @@
 #!/usr/bin/env python3
 """Counts the instructions of an archive's operations, the library's beside those of archive.c, and prints a table.
 
-    rt check archive_vectors && python3 bench/archive.py
+    tools/built archive_vectors && python3 bench/archive.py
 
 Needs gcc and valgrind, on x86-64. A figure is what a call takes over a call of the same operation on the same bytes that is refused at once
 (another form, or a told size past the file), so that reading the case and writing the answer do not count. Both programs answer the same,
@@ -15,7 +15,7 @@ import sys
 import tempfile
 
 HERE = os.path.dirname(os.path.abspath(__file__))
-LIBRARY = os.path.join(HERE, "..", "target", "bin", "archive_vectors")
+LIBRARY = os.path.join(HERE, "..", "crates", "archive_vectors", "out", "archive_vectors")
 ADD, CLOSE, OPEN, READ, FIND = 1, 2, 3, 4, 5
 
 

@@ -1,7 +1,7 @@
 /*
  * Chudopolk: SOME/IP messages with tagged payloads, read and written.
  *
- * Link with libchudopolk.a (`rt staticlib chudopolk` writes it to target/staticlib/), on x86-64 Linux.
+ * Link with libchudopolk.a (`rt lib` in crates/chudopolk writes it to out/), on x86-64 Linux.
  *
  * Three functions: check a type table, read a message, write a message. Each of them answers every input; none keeps anything, allocates,
  * or has an error of its own: what it finds is one verdict of the list below.

@@ -3,8 +3,8 @@
 # wrong counts, short arrays and wild numbers; and compares it with the second program, on x86-64.
 #   tests/abi.sh [SEED COUNT]      the second program's cases, 2 and 2000 if not named
 # The archive is built first where it isn't there, or is older than a source file. It is x86-64 code. On another processor the programs are
-# made by a cross compiler (CC, or x86_64-linux-gnu-gcc) and by cargo for x86_64-unknown-linux-gnu, linked statically, and run under the
-# kit's emulator. Status 0: all is as it should be; 1: something isn't; 2: it could not run.
+# made by a cross compiler (CC, or x86_64-linux-gnu-gcc) and by cargo for x86_64-unknown-linux-gnu, linked statically, and run under
+# qemu-x86_64. Status 0: all is as it should be; 1: something isn't; 2: it could not run.
 set -eu
 
 fail() { # STATUS MESSAGE
@@ -16,7 +16,6 @@ fail() { # STATUS MESSAGE
 seed=${1:-2} count=${2:-2000}
 export PYTHONDONTWRITEBYTECODE=1
 root=$(cd "$(dirname "$0")/.." && pwd -P) || exit 2
-archive=$root/target/staticlib/libchudopolk.a
 expected=$root/tests/abi/expected
 room=$(mktemp -d) || exit 2
 trap 'rm -rf "$room"' EXIT
@@ -30,9 +29,7 @@ if [ "$machine" = x86_64 ]; then
     cc=${CC:-cc} static='' emulator=''
 else
     cc=${CC:-x86_64-linux-gnu-gcc} static=-static
-    guide=$(rt doc) || fail 2 "rt is needed, and it isn't on the path"
-    emulator=${guide%/docs/*}/on/$machine/toolchain/bin/qemu-x86_64
-    [ -x "$emulator" ] || fail 2 "the kit has no emulator for $machine: $emulator"
+    emulator=$(command -v qemu-x86_64) || fail 2 "qemu-x86_64 is needed on $machine, and it isn't on the path"
     export CARGO_TARGET_X86_64_UNKNOWN_LINUX_GNU_LINKER="$cc"
     export CARGO_TARGET_X86_64_UNKNOWN_LINUX_GNU_RUSTFLAGS='-C target-feature=+crt-static'
 fi
@@ -46,11 +43,7 @@ run() { # PROGRAM
 
 # ---- the archive
 
-if [ ! -f "$archive" ] || [ -n "$(find "$root/crates" -path '*/src/*.rt' -newer "$archive" -print)" ]; then
-    command -v rt >/dev/null || fail 2 "rt is needed to build the archive, and it isn't on the path"
-    said=$(cd "$root" && rt staticlib chudopolk 2>&1 </dev/null) || { printf '%s\n' "$said" >&2; fail 1 "the archive could not be built"; }
-    [ -f "$archive" ] || fail 1 "rt built no $archive"
-fi
+archive=$("$root/tools/built" chudopolk libchudopolk.a) || fail 1 "the archive could not be built"
 
 # ---- the header
 

@@ -1,7 +1,7 @@
 #!/bin/sh
 # Runs depot on archives, whole and damaged, and compares what it prints and what it leaves on disk. The expected lines are worked out by hand.
 # Builds nothing.
-#   tests/depot.sh PROGRAM         (target/bin/depot, once `rt check depot` has made it)
+#   tests/depot.sh PROGRAM         (what `tools/built depot` prints)
 # Prints a line for each case that fails, and ends with status 1 if one does.
 set -u
 

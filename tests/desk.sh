@@ -1,6 +1,6 @@
 #!/bin/sh
 # Runs desk on tables, datagrams and values, and compares what it prints. The expected lines are worked out by hand. Builds nothing.
-#   tests/desk.sh PROGRAM         (target/bin/desk, once `rt check desk` has made it)
+#   tests/desk.sh PROGRAM         (what `tools/built desk` prints)
 # Prints a line for each case that fails, and ends with status 1 if one does.
 set -u
 

@@ -1,9 +1,13 @@
 #!/bin/sh
-# After `rt ci` or `rt must-fail`: looks at why each must-fail edit was refused. A line `# refused: FUNCTION ..` of an edit names the functions
-# whose own proof has to fail, not only that of a caller; and the first error there is a fact, not a need that the code's shape no longer has.
-# Prints what is otherwise, and ends with status 1 if something is.
+# Looks at why each must-fail edit is refused. A line `# refused: FUNCTION ..` of an edit names the functions whose own proof has to fail, not
+# only that of a caller. Prints what is otherwise, and ends with status 1 if something is.
+#   tests/edits.sh                    each edit's texts stand once in their files, and it names its functions
+#   tests/edits.sh LOG                the same, and what `rt ci` or `rt must-fail` said of each edit, which LOG has: it is refused, for a fact and
+#                                     not for a name that is gone, and the first refusal, the only one that they tell, is one of its functions'
+#   tests/edits.sh --each [CRATE..]   checks each edit of the crates anew, and looks at each of its functions: some minutes
 set -eu
 cd "$(dirname "$0")/.."
+export PYTHONDONTWRITEBYTECODE=1
 tried=0 wrong=0
 
 # Says what is wrong with an edit.
@@ -12,24 +16,98 @@ fault() { # EDIT TEXT
     wrong=$((wrong + 1))
 }
 
-for edit in crates/*/must-fail/*.edit; do
-    crate=${edit#crates/}
-    log=target/must-fail/${crate%%/*}/$(basename "$edit" .edit)/.log
-    [ -f "$log" ] || { fault "$edit" "not tried: there is no $log"; continue; }
-    names=$(sed -n 's/^# refused: //p' "$edit")
-    [ -n "$names" ] || fault "$edit" "no line '# refused: FUNCTION'"
-    for name in $names; do
+functions() { sed -n 's/^# refused: //p' "$1"; } # EDIT
+
+# The function in whose text a line lies, or whose proof a file is, as crate::module::Type::name; nothing of a lemma's or a definition's file.
+# Edits change no number of lines.
+function_at() { # CRATE FILE LINE
+    module=$(basename "$2" .rt)
+    case $2 in
+    src/*) ;;
+    proofs/*/Answers.antt | proofs/*/Invariants.antt | proofs/*/Proof.antt) echo "$1::$(dirname "${2#proofs/}" | sed 's|/|::|g')"; return ;;
+    *) return ;;
+    esac
+    case $module in lib | main) module='' ;; *) module=::$module ;; esac
+    awk -v at="$3" -v name="$1$module" '
+        NR > at { exit }
+        /^}/ { type = "" }
+        /^impl/ { type = $0; sub(/.* for /, "", type); sub(/^impl */, "", type); sub(/[ <{].*/, "", type); type = "::" type }
+        !/^ *\/\// && match($0, /fn [a-z_0-9]+/) { last = type "::" substr($0, RSTART + 3, RLENGTH - 3) }
+        END { if (last) print name last }' "crates/$1/$2"
+}
+
+# What the log says of an edit.
+look() { # EDIT
+    name=${1#crates/}
+    name=${name%%/*}/$(basename "$1")
+    said=$(grep "^rt: must-fail $name: " "$log" | tail -n 1)
+    said=${said#"rt: must-fail $name: "}
+    case $said in
+    'refused, as it must be: '*) ;;
+    '') fault "$1" "the log has nothing of it"; return ;;
+    *) fault "$1" "$said"; return ;;
+    esac
+    place=$(echo "$said" | sed -nE 's|^refused, as it must be: (note: )?(\./)?([^ :]+):([0-9]+):.*|\3 \4|p')
+    [ -n "$place" ] || { fault "$1" "no place of a refusal: $said"; return; }
+    # shellcheck disable=SC2086
+    found=$(function_at "${name%%/*}" $place)
+    tried=$((tried + 1))
+    # A definition's edit may be refused by a lemma first.
+    if [ -z "$found" ] && grep -q '^file: specs/' "$1"; then return; fi
+    functions "$1" | tr ' ' '\n' | grep -qxF "${found:-?}" || fault "$1" "refused for ${found:-a lemma or a definition}, of which it says nothing: $said"
+}
+
+# What a check of the crate with an edit says of each of its functions.
+try() { # CRATE EDIT
+    python3 tests/shared/edit.py "$2" "$room/crates/$1"
+    (cd "$room/crates/$1" && rt check) >"$room/said" 2>&1 || :
+    for function in $(functions "$2"); do
         tried=$((tried + 1))
-        said=$(grep "^fn $name: " "$log" || :)
-        case $said in
-        '') fault "$edit" "the prover says nothing of $name" ;;
-        *': proved') fault "$edit" "$name is still proved" ;;
-        *'; it calls '*) fault "$edit" "$name is refused only for what it calls" ;;
+        case $(grep "^fn $function: " "$room/said" || :) in
+        '') fault "$2" "the prover says nothing of $function" ;;
+        *': proved') fault "$2" "$function is still proved" ;;
+        *': no proof: it calls '*) fault "$2" "$function is refused only for what it calls" ;;
         esac
-        place=$(printf '%s' "${name#*::}" | sed 's|::|/|g')
-        first=$(grep -m 1 "/proofs/$place/.*: error" "$log" || :)
-        case $first in *'that can be named from here'*) fault "$edit" "$name is refused for its shape" ;; esac
+        proof=proofs/$(printf '%s' "${function#*::}" | sed 's|::|/|g')/
+        first=$(grep -E -m 1 "^(note: )?(\./)?$proof.*: error" "$room/said" || :)
+        case $first in *'has no field'* | *'is not in scope'* | *'has no `'*) fault "$2" "$function is refused for its shape: $first" ;; esac
     done
+    for part in src specs proofs; do
+        [ ! -d "crates/$1/$part" ] || cp -r "crates/$1/$part/." "$room/crates/$1/$part"
+    done
+}
+
+for edit in crates/*/must-fail/*.edit; do
+    python3 tests/shared/edit.py "$edit" || wrong=$((wrong + 1))
+    [ -n "$(functions "$edit")" ] || fault "$edit" "no line '# refused: FUNCTION'"
 done
+
+case ${1-} in
+'') ;;
+--each)
+    shift
+    room=$(mktemp -d)
+    trap 'rm -rf "$room"' EXIT
+    trap 'exit 1' HUP INT TERM
+    mkdir "$room/.git" "$room/crates"
+    cp crates.txt "$room"
+    for folder in crates/*; do
+        mkdir "$room/$folder"
+        for part in src specs proofs; do
+            [ ! -d "$folder/$part" ] || cp -r "$folder/$part" "$room/$folder"
+        done
+    done
+    [ $# -gt 0 ] || set -- $(ls -d crates/*/must-fail | sed 's|crates/||; s|/must-fail||')
+    for crate; do
+        (cd "$room/crates/$crate" && rt check) >"$room/said" 2>&1 || { cat "$room/said"; fault "crates/$crate" "not proved as it is"; continue; }
+        for edit in crates/"$crate"/must-fail/*.edit; do try "$crate" "$edit"; done
+    done
+    ;;
+*)
+    log=$1
+    [ -f "$log" ] || { echo "edits.sh: there is no $log" >&2; exit 2; }
+    for edit in crates/*/must-fail/*.edit; do look "$edit"; done
+    ;;
+esac
 echo "edits.sh: $tried refusals looked at, $wrong not as they should be"
 [ "$wrong" -eq 0 ]

@@ -108,13 +108,10 @@ status 1'
 three='shift.arc: verdict 0 size 97 records 77 messages 3 accepted
 status 0'
 # No file can be written, and what went wrong is told even so. All has been built above; rt would write a file.
-mkdir bin
-printf '#!/bin/sh\n[ "$1" = check ] || exec "%s" "$@"\n' "$(command -v rt)" >bin/rt
-chmod 755 bin/rt
 filled() {
     trap '' XFSZ
     ulimit -f 0
-    PATH=$room/bin:$PATH run "$@"
+    run "$@"
 }
 answers 'a full disk' "$none" 'filled archive list gone'
 answers 'adding on a full disk' "shift.arc.new: File too large

@@ -1,6 +1,6 @@
 #!/bin/sh
 # Runs showw on datagrams and compares what it prints. The expected lines are document 01's, worked out by hand. Builds nothing.
-#   tests/showw.sh PROGRAM         (target/bin/showw, once `rt check showw` has made it)
+#   tests/showw.sh PROGRAM         (what `tools/built showw` prints)
 # Prints a line for each case that fails, and ends with status 1 if one does.
 set -u
 

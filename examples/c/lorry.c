@@ -1,6 +1,6 @@
 /*
  * A logger's table in C: a datagram is read and its values are printed, then a message is written.
- *   cc -I include examples/c/lorry.c target/staticlib/libchudopolk.a -o lorry
+ *   cc -I include examples/c/lorry.c crates/chudopolk/out/libchudopolk.a -o lorry
  */
 #include <inttypes.h>
 #include <stdio.h>

@@ -54,7 +54,7 @@ def source_structs(text):
 
 
 def source_functions(text):
-    found = re.findall(r'#\[no_mangle\]\npub extern "C" fn (\w+)\((.*?)\) -> (\w+)', text, re.S)
+    found = re.findall(r'#\[unsafe\(no_mangle\)\]\npub extern "C" fn (\w+)\((.*?)\) -> (\w+)', text, re.S)
     return {
         name: (C_TYPES.get(given) or f"chudopolk_{snake(given)}", [c for field, kind in pairs(params) for c in c_params(field, kind)])
         for name, params, given in found

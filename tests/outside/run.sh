@@ -1,7 +1,7 @@
 #!/bin/sh
 # run.sh [SEED]: lets the library write messages, packs them into a capture, and compares what Debian's tshark shows of them with what was
 # written, for table W and a richer table. It is no part of the gate. What tshark can't judge stands in tshark.py and is printed at the end.
-# Where tshark is missing it is installed, which takes root; apart from that, files are made only in a temporary folder and in target/.
+# Where tshark is missing it is installed, which takes root; apart from that, files are made only in a temporary folder and in crates/*/out/.
 # Status 0: all is shown as it was written, and the self-test finds every change; 1: not so; 2: it could not be tried.
 set -eu
 
@@ -33,9 +33,8 @@ install_tshark() {
 }
 
 command -v python3 >/dev/null || fail "python3 is needed, and it isn't on the path"
-command -v rt >/dev/null || fail "rt is needed to build vectors, and it isn't on the path"
 command -v tshark >/dev/null || install_tshark
 cd "$root"
-quietly rt check vectors
+program=$(tools/built vectors) || fail "vectors could not be built"
 tshark --version 2>/dev/null | head -n 1
-PYTHONDONTWRITEBYTECODE=1 python3 "$here/tshark.py" "$seed" "$folder" tools/x86-64 target/bin/vectors
+PYTHONDONTWRITEBYTECODE=1 python3 "$here/tshark.py" "$seed" "$folder" tools/x86-64 "$program"
