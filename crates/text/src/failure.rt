@@ -2,13 +2,11 @@
 
 ghost use Rattle.std.specs.Prelude.{◌≤◌, length};
 
+use super::say::ERR;
 use super::slice;
 use std::fmt;
 use std::fmt::Write;
 use std::io::Error;
-
-// Standard error's descriptor.
-const ERR: i32 = 2;
 
 // The system's codes for a descriptor that is not open, and for a name that is no text.
 pub const NOT_OPEN: i32 = 9;
