@@ -1,12 +1,12 @@
 // Messages on standard error: the file, the line where there is one, and what is wrong.
 
 use super::phrase;
-use libc::STDERR_FILENO as ERR;
 use text::number::Number;
+use text::say::ERR;
 use text::{number, quote, say};
 
 // What a word was taken for: a number, or what a message has been given for.
-#[derive(Drop)]
+#[derive(Clone, Copy)]
 pub enum Got {
     Is(u64),
     Wrong,

@@ -21,11 +21,13 @@ mod value_out;
 mod values;
 mod words;
 
-use libc::STDERR_FILENO;
+use std::rt::{Env, Files};
 use table_file::Sheet;
 use tally::Tally;
+use text::file::Standard;
 use text::input::Input;
-use text::{file, list, slice};
+use text::say::ERR;
+use text::{argument, file, list, slice};
 
 // What the program is asked for, beside show, which is 0.
 const SHOW_HEX: usize = 1;
@@ -33,9 +35,18 @@ const SHOW_HEX: usize = 1;
 const MAKE: usize = 2;
 
 // Shows the datagram of a file.
-fn show_file(path: &[u8], many: bool, is_hex: bool, s: Sheet, all: &[u8], tally: Tally) -> Tally {
+fn show_file<R: Files + std::io::Input>(
+    rt: &R,
+    standard: &mut Standard,
+    path: &[u8],
+    many: bool,
+    is_hex: bool,
+    s: Sheet,
+    all: &[u8],
+    tally: Tally,
+) -> Tally {
     let mut buf = io::large_buffer();
-    match files::read_datagram(path, is_hex, &mut buf) {
+    match files::read_datagram(rt, standard, path, is_hex, &mut buf) {
         Input::Bytes(n) => show::datagram(path, many, slice::between(&buf, 0, n), s, all, tally),
         Input::Long => {
             complain::of_file(path, phrase::LONG_DATAGRAM);
@@ -46,23 +57,38 @@ fn show_file(path: &[u8], many: bool, is_hex: bool, s: Sheet, all: &[u8], tally:
 }
 
 // Shows the datagram that an argument names.
-fn show_argument(i: usize, many: bool, is_hex: bool, s: Sheet, all: &[u8], tally: Tally) -> Tally {
+fn show_argument<R: Files + Env + std::io::Input>(
+    rt: &R,
+    standard: &mut Standard,
+    i: usize,
+    many: bool,
+    is_hex: bool,
+    s: Sheet,
+    all: &[u8],
+    tally: Tally,
+) -> Tally {
     let mut path = io::buffer();
-    let k = os::arg(i, &mut path);
-    show_file(&path[..k], many, is_hex, s, all, tally)
+    let k = argument::get(rt, i, &mut path);
+    show_file(rt, standard, &path[..k], many, is_hex, s, all, tally)
 }
 
 // Shows the datagrams that the arguments behind the table name, or the one on standard input.
-fn show_all(is_hex: bool, s: Sheet, all: &[u8]) {
-    let count = os::arg_count();
+fn show_all<R: Files + Env + std::io::Input>(
+    rt: &R,
+    standard: &mut Standard,
+    is_hex: bool,
+    s: Sheet,
+    all: &[u8],
+) {
+    let count = argument::count(rt);
     let mut tally = Tally::new();
     if count <= 3 {
-        show_file(b"-", false, is_hex, s, all, tally);
+        show_file(rt, standard, b"-", false, is_hex, s, all, tally);
         return;
     }
     let mut i: usize = 3;
     while i < count {
-        tally = show_argument(i, 4 < count, is_hex, s, all, tally);
+        tally = show_argument(rt, standard, i, 4 < count, is_hex, s, all, tally);
         if tally.is_stopped {
             return;
         }
@@ -74,9 +100,15 @@ fn show_all(is_hex: bool, s: Sheet, all: &[u8]) {
 }
 
 // Makes the datagram of the values in a file, or of those on standard input.
-fn make_file(path: &[u8], s: Sheet, all: &[u8]) {
+fn make_file<R: Files + std::io::Input>(
+    rt: &R,
+    standard: &mut Standard,
+    path: &[u8],
+    s: Sheet,
+    all: &[u8],
+) {
     let mut buf = io::large_buffer();
-    match file::read_file(path, &mut buf) {
+    match file::read_file(rt, standard, path, &mut buf) {
         Input::Bytes(n) => make::from_text(path, slice::between(&buf, 0, n), s, all),
         Input::Long => {
             complain::of_file(path, phrase::LONG_VALUES);
@@ -86,34 +118,46 @@ fn make_file(path: &[u8], s: Sheet, all: &[u8]) {
 }
 
 // The same of the file that the argument behind the table names.
-fn make_argument(s: Sheet, all: &[u8]) {
-    if os::arg_count() <= 3 {
-        make_file(b"-", s, all);
+fn make_argument<R: Files + Env + std::io::Input>(
+    rt: &R,
+    standard: &mut Standard,
+    s: Sheet,
+    all: &[u8],
+) {
+    if argument::count(rt) <= 3 {
+        make_file(rt, standard, b"-", s, all);
         return;
     }
     let mut path = io::buffer();
-    let k = os::arg(3, &mut path);
-    make_file(&path[..k], s, all);
+    let k = argument::get(rt, 3, &mut path);
+    make_file(rt, standard, &path[..k], s, all);
 }
 
 // Does what is asked under the table of a text.
-fn run(command: usize, path: &[u8], all: &[u8]) {
+fn run<R: Files + Env + std::io::Input>(
+    rt: &R,
+    standard: &mut Standard,
+    command: usize,
+    path: &[u8],
+    all: &[u8],
+) {
     let s = table_file::read(path, all);
     if !s.ok {
         return;
     }
     if command == MAKE {
-        make_argument(s, all);
+        make_argument(rt, standard, s, all);
         return;
     }
-    show_all(command == SHOW_HEX, s, all);
+    show_all(rt, standard, command == SHOW_HEX, s, all);
 }
 
 // Does what is asked under the table of a file.
-fn run_file(command: usize, path: &[u8]) {
+fn run_file<R: Files + Env + std::io::Input>(rt: &R, command: usize, path: &[u8]) {
+    let mut standard = Standard::new();
     let mut buf = io::large_buffer();
-    match file::read_file(path, &mut buf) {
-        Input::Bytes(n) => run(command, path, slice::between(&buf, 0, n)),
+    match file::read_file(rt, &mut standard, path, &mut buf) {
+        Input::Bytes(n) => run(rt, &mut standard, command, path, slice::between(&buf, 0, n)),
         Input::Long => {
             complain::of_file(path, phrase::LONG_TABLE);
         }
@@ -123,18 +167,18 @@ fn run_file(command: usize, path: &[u8]) {
 
 // Says how the program is called.
 fn usage() {
-    phrase::line(STDERR_FILENO, phrase::USAGE);
+    phrase::line(ERR, phrase::USAGE);
 }
 
-fn main() {
+fn main(rt: HostRuntime) {
     let mut word = io::buffer();
-    let n = os::arg(1, &mut word);
+    let n = argument::get(&rt, 1, &mut word);
     let command = list::index(b"show;show-hex;make;", &word[..n]);
     if MAKE < command {
         usage();
         return;
     }
     let mut path = io::buffer();
-    let k = os::arg(2, &mut path);
-    run_file(command, &path[..k]);
+    let k = argument::get(&rt, 2, &mut path);
+    run_file(&rt, command, &path[..k]);
 }

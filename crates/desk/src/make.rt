@@ -3,12 +3,12 @@
 use super::table_file::Sheet;
 use super::values::Values;
 use super::{complain, kind, phrase, values, words};
-use libc::{STDERR_FILENO as ERR, STDOUT_FILENO as OUT};
 use message::header::Header;
 use message::message_type::MessageType;
 use message::write;
 use payload::row::{Row, Value};
 use payload::table::TypeRow;
+use text::say::{ERR, OUT};
 use text::{say, slice};
 use wire::id::{ClientId, MethodId, ServiceId, SessionId};
 use wire::text as wire_text;

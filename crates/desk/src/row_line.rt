@@ -13,7 +13,7 @@ use text::{list, slice, word};
 const NAME_MOST: usize = 32;
 
 // A row's words; nothing of it counts where `ok` is false.
-#[derive(Drop)]
+#[derive(Clone, Copy)]
 struct Line {
     row: TypeRow,
     name: Word,
@@ -21,7 +21,7 @@ struct Line {
 }
 
 // A kind and an element kind, and where the words behind them begin.
-#[derive(Drop)]
+#[derive(Clone, Copy)]
 struct Kinds {
     kind: u8,
     elem: u8,

@@ -112,7 +112,7 @@ fn float_bits(path: &[u8], nth: usize, word: &[u8], wide: bool) -> Got {
 
 // A float: bits behind 0x, also behind a value and a colon; else a decimal, inf or nan, with a sign or without.
 fn float_of(path: &[u8], nth: usize, word: &[u8], wide: bool) -> Got {
-    let colon = bytes::scan::find(word, 0, word.len(), b':');
+    let colon = slice::find(word, 0, b':');
     if colon < word.len() {
         return float_bits(path, nth, slice::between(word, colon + 1, word.len()), wide);
     }

@@ -3,11 +3,11 @@
 use super::table_file::Sheet;
 use super::tally::Tally;
 use super::{phrase, value_out, words};
-use libc::STDOUT_FILENO as OUT;
 use message::read::{Head, MessageReading};
 use message::{part, read};
 use payload::read::Reading;
 use payload::row::Row;
+use text::say::OUT;
 use text::{say, slice};
 use wire::verdict::ReturnCode;
 

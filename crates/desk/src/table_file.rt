@@ -7,17 +7,17 @@ ghost use Rattle.std.specs.Prelude.{◌<◌};
 
 use super::complain::Got;
 use super::{complain, phrase, row_line};
-use libc::STDERR_FILENO as ERR;
 use message::message_type::MessageType;
 use message::read::Expected;
 use payload::table;
 use payload::table::{Table, TypeRow};
+use text::say::ERR;
 use text::word::Word;
 use text::{list, say, slice, word};
 use wire::id::{MethodId, ServiceId};
 
 // Where a row's name stands in the text, and in which line.
-#[derive(Drop)]
+#[derive(Clone, Copy)]
 pub struct Name {
     pub from: usize,
     pub to: usize,
@@ -25,7 +25,7 @@ pub struct Name {
 }
 
 // What the lines up to one have set. `seen` has the line of each setting, 0 before it; nothing of it counts where `ok` is false.
-#[derive(Drop)]
+#[derive(Clone, Copy)]
 pub struct Sheet {
     pub service: u16,
     pub method: u16,
@@ -315,7 +315,7 @@ fn read_lines(path: &[u8], all: &[u8]) -> Sheet {
     let mut at: usize = 0;
     let mut nth: usize = 0;
     while at < all.len() {
-        let end = bytes::scan::find(all, at, all.len(), b'\n');
+        let end = slice::find(all, at, b'\n');
         nth += 1;
         s = read_line(path, nth, slice::between(all, 0, end), at, s);
         if !s.ok {

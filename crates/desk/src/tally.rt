@@ -1,11 +1,11 @@
 // How many datagrams got which verdict.
 
 use super::{phrase, words};
-use libc::{STDERR_FILENO as ERR, STDOUT_FILENO as OUT};
 use text::say;
+use text::say::{ERR, OUT};
 
 // The count of each verdict by its number, of all, of those that could not be read, and whether something could not be written.
-#[derive(Drop)]
+#[derive(Clone, Copy)]
 pub struct Tally {
     counts: [u64; 64],
     shown: u64,

@@ -4,8 +4,8 @@
 ghost use Rattle.std.specs.Prelude.{◌≤◌};
 
 use super::{kind, phrase};
-use libc::STDOUT_FILENO as OUT;
 use payload::row::{Row, Value};
+use text::say::OUT;
 use text::{decimal, float, quote, say};
 use wire::part::Part;
 use wire::{number, part};

@@ -21,7 +21,7 @@ use wire::number;
 
 // What the lines up to one have set: the rows, the line of each (0: none), the header's three fields, and how many bytes of content there are.
 // Nothing of it counts where `ok` is false.
-#[derive(Drop)]
+#[derive(Clone, Copy)]
 pub struct Values {
     pub rows: [Row; 64],
     pub lines: [usize; 64],
@@ -33,7 +33,7 @@ pub struct Values {
 }
 
 // A row's value, and how many bytes of content there are then.
-#[derive(Drop)]
+#[derive(Clone, Copy)]
 struct Entry {
     row: Row,
     used: usize,
@@ -368,7 +368,7 @@ fn value_at(
 }
 
 // Which row a line is for, counted from 1, and where its value stands; 0 where a message has been given.
-#[derive(Drop)]
+#[derive(Clone, Copy)]
 struct Target {
     row: usize,
     at: usize,
@@ -569,7 +569,7 @@ pub fn read(path: &[u8], lines: &[u8], s: Sheet, all: &[u8], content: &mut [u8])
     let mut at: usize = 0;
     let mut nth: usize = 0;
     while at < lines.len() {
-        let end = bytes::scan::find(lines, at, lines.len(), b'\n');
+        let end = slice::find(lines, at, b'\n');
         nth += 1;
         v = read_line(
             path,

@@ -1,7 +1,7 @@
 // The verdicts in the scope paper's words.
 
 use super::phrase;
-use libc::{STDERR_FILENO as ERR, STDOUT_FILENO as OUT};
+use text::say::{ERR, OUT};
 use text::{list, say};
 
 // Writes the word of a verdict, by its number.

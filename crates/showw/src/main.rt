@@ -8,13 +8,13 @@
 mod show;
 mod table_w;
 
-use libc::{STDERR_FILENO, STDIN_FILENO};
 use text::input;
 use text::input::Input;
+use text::say::ERR;
 
 // Says what went wrong, where it can't be taken for an answer.
 fn complain(what: &[u8]) {
-    io::write_all(STDERR_FILENO, what);
+    io::write_all(ERR, what);
 }
 
 // Shows a datagram, and says so where the answer can't be written.
@@ -25,9 +25,10 @@ fn show_datagram(d: &[u8]) {
 }
 
 // The whole input is the datagram; the buffer has one byte more than a datagram, so that no input is cut.
-fn main() {
+fn main(rt: HostRuntime) {
+    let mut source = rt.stdin();
     let mut buf = io::large_buffer();
-    match input::read_input(STDIN_FILENO, &mut buf) {
+    match input::read_input(&mut source, &mut buf) {
         Input::Bytes(n) => show_datagram(&buf[..n]),
         Input::Long => complain(
             b"showw: the input is longer than 65535 bytes, the most that a datagram has\n",

@@ -1,10 +1,10 @@
 // An answer in the form of document 01: a line for the verdict, then one for each row. Each function answers whether all was written.
 
-use libc::STDOUT_FILENO as OUT;
 use payload::read::Reading;
 use payload::row::{Row, Value};
 use payload::table::Table;
 use text::say;
+use text::say::OUT;
 
 // Text as it stands.
 fn put(word: &[u8]) -> bool {

@@ -7,7 +7,7 @@ use super::number::Number;
 use super::{big, number, say, slice};
 
 // What a text is as a decimal: one, one with more than 18 digits or an exponent that no float has, or none.
-#[derive(Drop)]
+#[derive(Clone, Copy)]
 pub enum Parsed {
     Is(Decimal),
     Far,
@@ -15,7 +15,7 @@ pub enum Parsed {
 }
 
 // The digits before an exponent: their number, how many there are and how many behind a point, how many points, and whether they are too many.
-#[derive(Drop)]
+#[derive(Clone, Copy)]
 struct Digits {
     value: u64,
     count: usize,

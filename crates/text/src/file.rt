@@ -3,42 +3,79 @@
 ghost use Rattle.text.specs.Input.{Taken};
 
 use super::input::Input;
-use super::{input, slice};
-use libc::STDIN_FILENO;
+use super::{failure, input, slice};
+use std::io::Read;
+use std::rt::Files;
+use std::{fs, io, str};
 
-// Opens a file for reading.
-fn open(path: &[u8]) -> i32 {
-    if slice::alike(path, b"-") {
-        return STDIN_FILENO;
-    }
-    os::open_read(path)
+// Standard input, which is closed once it has been read.
+#[derive(Drop)]
+pub struct Standard {
+    is_closed: bool,
 }
 
-// Says why a file can't be read.
-fn told(path: &[u8], got: Input) {
-    if let Input::Failed = got {
-        os::fail(path);
+impl Standard {
+    pub fn new() -> Standard {
+        Standard { is_closed: false }
+    }
+}
+
+// Opens a file for reading. A name that is no text is that of no file.
+pub fn open<R: Files>(rt: &R, path: &[u8]) -> io::Result<R::File> {
+    match str::from_utf8(path) {
+        Ok(name) => fs::open(rt, name),
+        Err(_) => Err(io::Error::from_raw_os_error(failure::NO_TEXT)),
     }
 }
 
 // Reads what is open into a buffer, closes it, and says why where it can't be read.
-pub fn read_open(fd: i32, path: &[u8], buf: &mut [u8]) -> Input
+pub fn read_open<S: Read + Drop>(source: S, path: &[u8], buf: &mut [u8]) -> Input
     ensures { Taken buf.new result }
 {
-    let got = input::read_input(fd, buf);
-    told(path, got);
-    libc::close(fd);
-    got
+    let mut open = source;
+    match input::read_or_fail(&mut open, buf) {
+        Ok(got) => got,
+        Err(e) => {
+            failure::say(path, &e);
+            Input::Failed
+        }
+    }
+}
+
+// Reads standard input, which can't be read twice.
+fn read_standard<R: io::Input>(
+    rt: &R,
+    standard: &mut Standard,
+    path: &[u8],
+    buf: &mut [u8],
+) -> Input
+    ensures { Taken buf.new result }
+{
+    if standard.is_closed {
+        failure::say_code(path, failure::NOT_OPEN);
+        return Input::Failed;
+    }
+    standard.is_closed = true;
+    read_open(rt.reader(), path, buf)
 }
 
 // Reads a file into a buffer that has a byte more than the file may have, and says why where it can't be read.
-pub fn read_file(path: &[u8], buf: &mut [u8]) -> Input
+pub fn read_file<R: Files + io::Input>(
+    rt: &R,
+    standard: &mut Standard,
+    path: &[u8],
+    buf: &mut [u8],
+) -> Input
     ensures { Taken buf.new result }
 {
-    let fd = open(path);
-    if fd < 0 {
-        os::fail(path);
-        return Input::Failed;
+    if slice::alike(path, b"-") {
+        return read_standard(rt, standard, path, buf);
     }
-    read_open(fd, path, buf)
+    match open(rt, path) {
+        Ok(source) => read_open(source, path, buf),
+        Err(e) => {
+            failure::say(path, &e);
+            Input::Failed
+        }
+    }
 }

@@ -7,21 +7,21 @@ ghost use Rattle.std.specs.Prelude.{◌<◌, ◌≤◌};
 use super::big;
 
 // A decimal number from 0 on.
-#[derive(Drop)]
+#[derive(Clone, Copy)]
 pub struct Decimal {
     pub digits: u64,
     pub last: usize,
 }
 
 // A float's bits without the sign, or a number too large for the float.
-#[derive(Drop)]
+#[derive(Clone, Copy)]
 pub enum Bits {
     Are(u64),
     Large,
 }
 
 // A number's binary digits: so many units of 2 to the power of `power` less the float's smallest.
-#[derive(Drop)]
+#[derive(Clone, Copy)]
 struct Scaled {
     number: [u64; 160],
     power: usize,

@@ -1,12 +1,14 @@
-// Text that people write, for the programs: a file or an input read to its end, words and numbers in a line, floats as decimals, and parts of
-// slices.
+// Text that people write, for the programs: arguments, a file or an input read to its end, words and numbers in a line, floats as decimals, and
+// parts of slices.
 //
 // No function that a program calls has a premise: whatever stands in a text is answered.
 
 #![tactic(auto)]
 
+pub mod argument;
 pub mod big;
 pub mod decimal;
+pub mod failure;
 pub mod file;
 pub mod float;
 pub mod input;

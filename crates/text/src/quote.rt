@@ -107,7 +107,7 @@ pub fn print(fd: i32, s: &[u8]) -> bool {
 }
 
 // What a quotation is: so many bytes of text; a mark missing at its end; a backslash before what is no escape; or more than there is room for.
-#[derive(Drop)]
+#[derive(Clone, Copy)]
 pub enum Quoted {
     Text(usize),
     Open,
@@ -116,7 +116,7 @@ pub enum Quoted {
 }
 
 // A byte of a quotation: which, how many bytes stand for it, and whether those are fine.
-#[derive(Drop)]
+#[derive(Clone, Copy)]
 struct Part {
     byte: u8,
     used: usize,

@@ -6,6 +6,11 @@ use super::slice;
 use wire::number;
 use wire::verdict::ReturnCode;
 
+// The descriptors of standard output and standard error.
+pub const OUT: i32 = 1;
+
+pub const ERR: i32 = 2;
+
 // One byte.
 pub fn byte(fd: i32, b: u8) -> bool {
     let one = [b];

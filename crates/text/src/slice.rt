@@ -1,5 +1,7 @@
 // Parts of slices, and single bytes, for any place.
 
+ghost use Rattle.std.specs.Prelude.{◌≤◌, length};
+
 // The bytes from one place up to another; none where they do not lie in the slice.
 pub fn between(s: &[u8], from: usize, to: usize) -> &[u8] {
     if to < from {
@@ -17,6 +19,21 @@ pub fn byte_at(s: &[u8], at: usize) -> u8 {
         return s[at];
     }
     0
+}
+
+// Where a byte stands first at or behind a place, or the slice's length.
+pub fn find(s: &[u8], from: usize, b: u8) -> usize
+    ensures behind { from ≤ length s.now → from ≤ result }
+    ensures within { result ≤ length s.now }
+{
+    let mut i = from;
+    while i < s.len() {
+        if s[i] == b {
+            return i;
+        }
+        i += 1;
+    }
+    s.len()
 }
 
 // A small letter for a capital one, and any other byte as it is.

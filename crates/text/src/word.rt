@@ -2,7 +2,7 @@
 // ends with the next that no backslash stands before.
 
 // A word's place in its line: from one byte up to another. Past the last word it is empty.
-#[derive(Drop)]
+#[derive(Clone, Copy)]
 pub struct Word {
     pub from: usize,
     pub to: usize,
