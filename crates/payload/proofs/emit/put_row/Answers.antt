@@ -16,11 +16,12 @@ use Rattle.payload.proofs.emit.put_row.Goals as goal
 pub returns-then-size-eq0 : goal.returns-then-size-eq0
 returns-then-size-eq0 c =
     let a = c.args in
-    let e = c.if-size-eq0.true in (
-      sym (ap (a.at +◌) (own_none a.width a.cell a.size e) ∙ add-zero a.at),
-      rw
-          (piece_none a.width a.ws c.requires.2 a.cell c.requires.0 a.content.now a.num a.size c.requires.1 (a.size - 1) e),
-    )
+    let e = c.if-size-eq0.true in
+    record {
+      next = sym (ap (a.at +◌) (own_none a.width a.cell a.size e) ∙ add-zero a.at);
+      output = rw
+          (piece_none a.width a.ws c.requires.2 a.cell c.requires.0 a.content.now a.num a.size c.requires.1 (a.size - 1) e);
+    }
 
 pub write_number-requires : goal.write_number-requires
 write_number-requires c =
@@ -49,9 +50,10 @@ pub returns-then-k-lt-STRING : goal.returns-then-k-lt-STRING
 returns-then-k-lt-STRING c =
     let a = c.args in
     let h : kind_in a.cell < 12 = rw c.kind_in-k.ensures at c.if-k-lt-STRING.true in
-    let some : 0 < a.size = omega (arith, c.if-size-eq0.false) in (
-      ap (a.at +◌) (sym (own_number a.width a.cell a.size c.if-size-eq0.false h)),
-      rw (
+    let some : 0 < a.size = omega (arith, c.if-size-eq0.false) in
+    record {
+      next = ap (a.at +◌) (sym (own_number a.width a.cell a.size c.if-size-eq0.false h));
+      output = rw (
         c.write_number-then-k-lt-STRING.ensures,
         c.write_number.ensures,
         c.tag_for.ensures,
@@ -59,8 +61,8 @@ returns-then-k-lt-STRING c =
             a.cell c.requires.0 a.content.now a.num a.size c.requires.1 some (a.size - 1) h,
       )
           (two_stores a.out.now (number_bytes big 2 (tag_for a.ws (row_in a.cell))) (number_bytes big (a.size - 1) a.num) a.at 2
-          (length_number_bytes 2 (tag_for a.ws (row_in a.cell)))),
-    )
+          (length_number_bytes 2 (tag_for a.ws (row_in a.cell))));
+    }
 
 pub write_number-requires-2 : goal.write_number-requires-2
 write_number-requires-2 c =
@@ -72,9 +74,10 @@ pub returns-then-k-eq-STRUCT : goal.returns-then-k-eq-STRUCT
 returns-then-k-eq-STRUCT c =
     let a = c.args in
     let k : kind_in a.cell ≡ struct = sym c.kind_in-k.ensures ∙ c.if-k-eq-STRUCT.true in
-    let some : 0 < a.size = omega (arith, c.if-size-eq0.false) in (
-      ap (a.at +◌) (sym (own_branch a.width a.cell a.size c.if-size-eq0.false k)),
-      rw (
+    let some : 0 < a.size = omega (arith, c.if-size-eq0.false) in
+    record {
+      next = ap (a.at +◌) (sym (own_branch a.width a.cell a.size c.if-size-eq0.false k));
+      output = rw (
         c.write_number-2.ensures,
         c.write_number.ensures,
         c.tag_for.ensures,
@@ -82,8 +85,8 @@ returns-then-k-eq-STRUCT c =
             c.requires.2 a.cell c.requires.0 a.content.now a.num a.size c.requires.1 some (a.size - 1) k,
       )
           (two_stores a.out.now (number_bytes big 2 (tag_for a.ws (row_in a.cell))) (number_bytes big a.width (a.size - 1)) a.at 2
-          (length_number_bytes 2 (tag_for a.ws (row_in a.cell)))),
-    )
+          (length_number_bytes 2 (tag_for a.ws (row_in a.cell))));
+    }
 
 pub put_content-requires : goal.put_content-requires
 put_content-requires c =
@@ -119,9 +122,10 @@ returns c =
     let a = c.args in
     let h : 12 ≤ kind_in a.cell = rw c.kind_in-k.ensures at c.if-k-lt-STRING.false in
     let k : kind_in a.cell ≡ struct → ⊥ = λ e. c.if-k-eq-STRUCT.false (c.kind_in-k.ensures ∙ e) in
-    let some : 0 < a.size = omega (arith, c.if-size-eq0.false) in (
-      ap (a.at +◌) (sym (own_run a.width a.cell a.size c.if-size-eq0.false h k)),
-      rw (
+    let some : 0 < a.size = omega (arith, c.if-size-eq0.false) in
+    record {
+      next = ap (a.at +◌) (sym (own_run a.width a.cell a.size c.if-size-eq0.false h k));
+      output = rw (
         c.put_content.ensures,
         c.write_number-2.ensures,
         c.write_number.ensures,
@@ -131,5 +135,5 @@ returns c =
       )
           (three_stores a.out.now (number_bytes big 2 (tag_for a.ws (row_in a.cell))) (number_bytes big a.width (a.size - 1))
           (content_in a.content.now (kind_in a.cell) a.num a.size)
-          a.at 2 a.width (length_number_bytes 2 (tag_for a.ws (row_in a.cell))) (length_number_bytes a.width (a.size - 1))),
-    )
+          a.at 2 a.width (length_number_bytes 2 (tag_for a.ws (row_in a.cell))) (length_number_bytes a.width (a.size - 1)));
+    }

@@ -1,59 +1,21 @@
-use mathlib.Core.Path.{refl}
-use Prim.Native.Nat.{ℕ, ◌+◌, ◌-◌, ◌*◌, ◌≤◌, ◌<◌}
-use native.Mathlib.Omega.{arith}
+-- `payload::size::measure` meets its contract, from the last row to the first.
+use Rattle.std.proofs.Common.{ℕ, ◌+◌, ◌-◌, ◌*◌, ◌≤◌, ◌<◌, refl, arith}
 use Rattle.payload.proofs.Writing.MeasureLaws.{row_most, below_le, sizing_none, sizing_end, sizing_wide, sizing_own, sizing_next}
 use Rattle.payload.proofs.size.measure.Goals as goal
 
 -- the sums are far below what a number holds
-room : (n i : ℕ) → n ≤ 64 → 1 + (n - i) * row_most ≤ 9223372036854775808
-room n i h = omega arith
-
 room-more : (n i own : ℕ) → n ≤ 64 → own < row_most → 1 + (n - i) * row_most ≤ 9223372036854775808 - own
 room-more n i own h k = omega arith
 
 pub loop-i-init : goal.loop-i-init
 loop-i-init c = (sizing_none _ _ _ _ c.requires.2 _ refl, c.field_top-top.ensures)
 
-pub overflow_sub-i : goal.overflow_sub-i
-overflow_sub-i c = omega arith
-
-pub offset_bounds-cells-i : goal.offset_bounds-cells-i
-offset_bounds-cells-i c = omega arith
-
-pub bounds-cells-i : goal.bounds-cells-i
-bounds-cells-i c = omega arith
-
-pub offset_bounds-sizes-i : goal.offset_bounds-sizes-i
-offset_bounds-sizes-i c = omega arith
-
-pub bounds-sizes-i : goal.bounds-sizes-i
-bounds-sizes-i c = omega arith
-
-pub whole-all-requires : goal.whole-all-requires
-whole-all-requires c =
+pub returns-then-top-all-clause-answer : goal.returns-then-top-all-clause-answer
+returns-then-top-all-clause-answer c =
     let t = c.loop-i in
-    below_le _ _ t.s (room c.args.count t.i c.requires.0) t.invariant.0.room
-
-pub returns-then-top-all : goal.returns-then-top-all
-returns-then-top-all c =
-    let t = c.loop-i in (
-      λ ws buf nums k. sizing_wide c.args.width c.args.count c.args.cells.now c.args.sizes.now t.sizes t.s t.i
-          t.invariant.0 c.requires.1 (t.i - 1) c.loop-i-test.true refl _ c.whole-all.ensures (rw t.invariant.1 at c.if-top-all.true) ws buf
-          nums t.sizes k,
-      t.invariant.0.long,
-    )
-
-pub offset_bounds-sizes-i-in-loop-i : goal.offset_bounds-sizes-i-in-loop-i
-offset_bounds-sizes-i-in-loop-i c = omega arith
-
-pub bounds-sizes-i-in-loop-i : goal.bounds-sizes-i-in-loop-i
-bounds-sizes-i-in-loop-i c = omega arith
-
-pub own_len-requires : goal.own_len-requires
-own_len-requires c =
-    let t = c.loop-i in
-    let q = c.loop-i-test.true in
-    (rw (t.invariant.0.same (t.i - 1) (omega arith)) (c.requires.3 (t.i - 1) (omega (arith, t.invariant.0.at_most))), c.requires.1)
+    λ ws buf nums k. sizing_wide c.args.width c.args.count c.args.cells.now c.args.sizes.now t.sizes t.s t.i
+    t.invariant.0 c.requires.1 (t.i - 1) c.loop-i-test.true refl _ c.whole-all.ensures (rw t.invariant.1 at c.if-top-all.true) ws buf
+    nums t.sizes k
 
 pub added-s-requires : goal.added-s-requires
 added-s-requires c =
@@ -62,9 +24,6 @@ added-s-requires c =
     (sizing_own c.args.width c.args.count c.args.cells.now c.args.sizes.now t.sizes t.s t.i t.invariant.0 c.requires.1
     (t.i - 1) c.loop-i-test.true refl _ c.whole-all.ensures (rw t.invariant.1 at c.if-top-all.false)) in
     (below_le _ _ t.s (room-more c.args.count t.i c.own_len.result c.requires.0 own) t.invariant.0.room, omega arith)
-
-pub loop-i-smaller : goal.loop-i-smaller
-loop-i-smaller c = omega arith
 
 pub loop-i-preserved : goal.loop-i-preserved
 loop-i-preserved c =
@@ -75,10 +34,8 @@ loop-i-preserved c =
       t.invariant.1,
     )
 
-pub returns : goal.returns
-returns c =
-    let t = c.loop-i in (
-      λ ws buf nums k. sizing_end c.args.width c.args.count c.args.cells.now c.args.sizes.now t.sizes t.s t.i t.invariant.0
-          c.loop-i-test.false ws buf nums k,
-      t.invariant.0.long,
-    )
+pub returns-clause-answer : goal.returns-clause-answer
+returns-clause-answer c =
+    let t = c.loop-i in
+    λ ws buf nums k. sizing_end c.args.width c.args.count c.args.cells.now c.args.sizes.now t.sizes t.s t.i t.invariant.0
+    c.loop-i-test.false ws buf nums k

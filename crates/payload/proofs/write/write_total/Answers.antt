@@ -14,7 +14,7 @@ returns-then-total-gt-PAYLOAD_MOST c =
     let space = length a.out.now in
     let f = settles_refused (fitted_of bytes space) Heavy a.out.now _ (fitted_heavy bytes space (rw c.requires.2 at c.if-total-gt-PAYLOAD_MOST.true))
     c.refuse.ensures in
-    (f.answer, f.output)
+    record { answer = f.answer; output = f.output }
 
 pub returns-then-out-total : goal.returns-then-out-total
 returns-then-out-total c =
@@ -24,7 +24,7 @@ returns-then-out-total c =
     let f = settles_refused (fitted_of bytes space) Room a.out.now _
     (fitted_room bytes space (rw c.requires.2 at c.if-total-gt-PAYLOAD_MOST.false) (rw c.requires.2 at c.if-out-total.true))
     c.refuse-then-out-total.ensures in
-    (f.answer, f.output)
+    record { answer = f.answer; output = f.output }
 
 pub returns : goal.returns
 returns c =
@@ -34,4 +34,4 @@ returns c =
     let f = settles_done (fitted_of bytes space) bytes a.out.now _ a.total
     (fitted_done bytes space (rw c.requires.2 at c.if-total-gt-PAYLOAD_MOST.false) (rw c.requires.2 at c.if-out-total.false)) c.requires.2
     c.put_rows.ensures in
-    (f.answer, f.output)
+    record { answer = f.answer; output = f.output }
