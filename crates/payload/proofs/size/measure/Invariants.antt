@@ -1,7 +1,6 @@
 -- `payload::size::measure` meets its contract. The loop's invariant: the sums and the sizes are right for the rows from `i` on, and none of
 -- them is too wide. The measure is the rows that are left.
 use mathlib.Core.Path.{◌≡◌}
-use Prim.Native.Nat.{◌-◌}
 use Rattle.payload.specs.Sizes.{field_top}
 use Rattle.payload.proofs.Writing.MeasureLaws.{Sizing}
 use Rattle.payload.proofs.size.measure.Given as goal
