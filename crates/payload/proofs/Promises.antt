@@ -1,29 +1,7 @@
 -- The promises of specs/Promises.antt, each by the law that shows it.
 -- Assumes nothing.
 use mathlib.Core.Path.{sym, ◌∙◌}
-use Rattle.payload.specs.Promises.{
-  TableIs,
-  TableDecided,
-  RowUnique,
-  RowFound,
-  OneReading,
-  AcceptedExactly,
-  OneTree,
-  RefusalClears,
-  RowsSet,
-  PlacesIn,
-  NothingPast,
-  InnerEnds,
-  OneWriting,
-  CheckedReads,
-  FiveOutcomes,
-  FewRows,
-  AllRows,
-  RoomLast,
-  DoneExactly,
-  OneFit,
-  WithinLevel,
-}
+use Rattle.payload.specs.Promises.{TableDecided, RowUnique, RowFound, OneReading, AcceptedExactly, OneTree, RefusalClears, RowsSet, NothingPast, InnerEnds, OneWriting, CheckedReads, FiveOutcomes, FewRows, AllRows, RoomLast, DoneExactly, OneFit, WithinLevel}
 use Rattle.payload.specs.Settled.{WriteSettled}
 use Rattle.payload.specs.WriteWhen.{WriteVerdicts}
 use Rattle.payload.specs.Paths.{ReadByPaths}

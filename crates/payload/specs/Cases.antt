@@ -5,7 +5,7 @@ use Rattle.wire.specs.declared.verdict.Verdict.TheVariants.{Accepted, TagCut, Wi
 use Rattle.payload.specs.declared.table.TypeRow.{TypeRow}
 use Rattle.payload.specs.declared.table.Table.{Table}
 use Rattle.payload.specs.declared.row.Row.{Row}
-use Rattle.payload.specs.declared.row.Value.TheVariants.{Absent, Unsigned, Signed, Bytes, Members}
+use Rattle.payload.specs.declared.row.Value.TheVariants.{Unsigned, Signed, Bytes, Members}
 use Rattle.payload.specs.declared.read.Reading.{Reading}
 use Rattle.payload.specs.Table.{no_row}
 use Rattle.payload.specs.Row.{plain, absent_row}

@@ -1,6 +1,6 @@
 -- Which trees of members a table reads, and what their reading gives (document 01, Members): a payload of bytes is accepted exactly when it
 -- is the bytes of such a tree.
-use Rattle.std.specs.Prelude.{◌≡◌, ℕ, suc, ◌+◌, ◌^◌, ◌<◌, Bool, true, false, not, List, [], ◌∷◌, length, drop, get_or, set, replicate, ltb, eqb}
+use Rattle.std.specs.Prelude.{◌≡◌, ℕ, suc, ◌+◌, ◌^◌, ◌<◌, Bool, true, false, not, List, [], ◌∷◌, length, drop, set, replicate, ltb, eqb}
 use Rattle.std.proofs.Math.Option.{Option, none, some}
 use Rattle.wire.specs.Choose.{pick, and, or}
 use Rattle.wire.specs.Number.{AreBytes}

@@ -1,6 +1,6 @@
 -- The members of present rows one after the other, in table order, as the writer's passes give them. Laws show that these are the bytes of
 -- the tree, and what is too wide there is too wide here.
-use Rattle.std.specs.Prelude.{ℕ, suc, ◌+◌, Bool, false, List, [], ◌∷◌, ◌++◌, length, ltb}
+use Rattle.std.specs.Prelude.{ℕ, suc, Bool, false, List, [], ◌∷◌, ◌++◌, length, ltb}
 use Rattle.wire.specs.Choose.{pick, or}
 use Rattle.wire.specs.Number.{big, number_bytes}
 use Rattle.wire.specs.Tag.{wire_of}

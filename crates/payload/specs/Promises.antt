@@ -8,7 +8,7 @@ use Rattle.payload.specs.declared.table.Table.{Table}
 use Rattle.payload.specs.declared.row.Row.{Row}
 use Rattle.payload.specs.declared.read.Reading.{Reading}
 use Rattle.payload.specs.declared.write.Written.{Written}
-use Rattle.payload.specs.Table.{find, idents_differ, type_rows, table_fits, TableRules, RowOf}
+use Rattle.payload.specs.Table.{find, idents_differ, table_fits, TableRules, RowOf}
 use Rattle.payload.specs.Cells.{table_in, Checked}
 use Rattle.payload.specs.Row.{absent_row}
 use Rattle.payload.specs.Reading.{enter, step_of, walk, payload_most, checked_of, reading_of}

@@ -1,5 +1,5 @@
 -- What the reader's own state stands for. The code walks by places; of each type row it keeps a word and a mark in two arrays of numbers.
-use Rattle.std.specs.Prelude.{ℕ, zero, suc, ◌+◌, ◌-◌, ◌*◌, ◌%◌, ◌^◌, ◌≤◌, ◌<◌, ◌≡◌, List, [], ◌∷◌, length, get_or, ltb, eqb}
+use Rattle.std.specs.Prelude.{ℕ, suc, ◌+◌, ◌-◌, ◌%◌, ◌^◌, ◌≤◌, ◌<◌, ◌≡◌, List, [], ◌∷◌, length, get_or, ltb, eqb}
 use Rattle.std.proofs.Math.Seq.{slice}
 use Rattle.wire.specs.Choose.{pick}
 use Rattle.wire.specs.Kind.{size_of, string, struct}

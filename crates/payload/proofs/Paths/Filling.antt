@@ -19,7 +19,7 @@ use Rattle.payload.specs.Table.{find, row_at}
 use Rattle.payload.specs.Row.{absent_row, members_row, shown_of}
 use Rattle.payload.specs.Reading.{content_fits}
 use Rattle.payload.specs.Tree.{Members, stop, mem, bytes_of}
-use Rattle.payload.specs.Formed.{row_for, content_at, filled, has, KnownAs, Each, each_stop, each_unknown, each_leaf, each_struct}
+use Rattle.payload.specs.Formed.{row_for, content_at, filled, KnownAs, Each, each_stop, each_unknown, each_leaf, each_struct}
 use Rattle.payload.specs.Writing.{Put, nothing}
 use Rattle.payload.specs.Paths.{at_end, path_row, at_path, Lies, Shows, shows_nothing, shows_leaf, shows_branch, ByPath}
 use Rattle.payload.proofs.Trees.Level.{none_some, found_inside, in_found, in_inner, InLevel, below_apart, below_out}

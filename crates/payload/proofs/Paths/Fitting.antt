@@ -9,7 +9,7 @@ use mathlib.Core.Option.{none, some}
 use mathlib.Core.List.{List, [], ◌++◌}
 use lib.ListN.{length, drop, get_or, set}
 use lib.Dec.{eqb}
-use Rattle.wire.specs.Choose.{pick, and, or}
+use Rattle.wire.specs.Choose.{pick, or}
 use Rattle.wire.specs.Tag.{wire_of, ident_of}
 use Rattle.wire.specs.Kind.{wire_fits, struct}
 use Rattle.wire.specs.declared.verdict.Verdict.TheVariants.{Missing}
@@ -20,7 +20,6 @@ use Rattle.payload.specs.Row.{absent_row, members_row, is_absent, shown_of}
 use Rattle.payload.specs.Reading.{content_fits, refused, walked, lacks, end_of, walk}
 use Rattle.payload.specs.Tree.{Members, stop, mem, member_bytes, bytes_of}
 use Rattle.payload.specs.Formed.{row_for, content_at, unknowns, filled, has, misses, Framed}
-use Rattle.payload.specs.Writing.{nothing}
 use Rattle.payload.specs.Paths.{Lies, Fits, fits_stop, fits_unknown, fits_leaf, fits_struct}
 use Rattle.payload.proofs.Joined.{or_left}
 use Rattle.payload.proofs.Trees.Level.{none_some, true_false, below_self}

@@ -19,7 +19,7 @@ use Rattle.payload.specs.declared.table.TypeRow.{TypeRow}
 use Rattle.payload.specs.Table.{find, row_at}
 use Rattle.payload.specs.Reading.{content_fits}
 use Rattle.payload.specs.Tree.{Members, stop, mem, member_bytes, bytes_of}
-use Rattle.payload.specs.Formed.{row_for, unknowns, has, Framed, KnownAs, Each, each_stop, each_unknown, each_leaf, each_struct}
+use Rattle.payload.specs.Formed.{row_for, unknowns, Framed, KnownAs, Each, each_stop, each_unknown, each_leaf, each_struct}
 use Rattle.payload.specs.Writing.{nothing, leaf, branch}
 use Rattle.payload.specs.Paths.{at_end, path_row, at_path, Fits, fits_stop, fits_unknown, fits_leaf, fits_struct}
 use Rattle.payload.proofs.Trees.Level.{none_some}

@@ -8,13 +8,13 @@ use mathlib.Core.List.{List, [], ◌∷◌, ◌++◌}
 use lib.ListN.{drop}
 use lib.Dec.{eqb}
 use borrow.Author.Tests.{eqb-true, eq-eqb}
-use Rattle.wire.specs.Choose.{and, or}
+use Rattle.wire.specs.Choose.{or}
 use Rattle.wire.specs.Tag.{ident_of}
 use Rattle.payload.specs.declared.table.TypeRow.{TypeRow}
 use Rattle.payload.specs.Table.{find, idents_differ}
 use Rattle.payload.specs.Tree.{Members, stop, mem}
 use Rattle.payload.specs.Formed.{row_for, has, misses}
-use Rattle.payload.specs.Writing.{nothing, leaf, branch}
+use Rattle.payload.specs.Writing.{branch}
 use Rattle.payload.specs.Paths.{at_end, at_path, Present, at_start, at_struct, LacksAt, Fits, fits_stop, fits_unknown, fits_leaf, fits_struct}
 use Rattle.payload.proofs.Joined.{or_true}
 use Rattle.payload.proofs.Trees.Level.{none_some, true_false}

@@ -10,7 +10,7 @@ use mathlib.Core.List.{List}
 use lib.ListN.{length}
 use lib.Dec.{leb, ltb, eqb}
 use borrow.Author.Tests.{ltb-false, eqb-true, eqb-false, leb-true}
-use Rattle.wire.specs.Choose.{pick, and}
+use Rattle.wire.specs.Choose.{pick}
 use Rattle.wire.specs.Number.{big, number_of}
 use Rattle.wire.specs.Kind.{string, array, struct}
 use Rattle.wire.specs.Text.{string_fits}

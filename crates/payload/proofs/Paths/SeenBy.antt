@@ -8,15 +8,12 @@ use mathlib.Core.List.{List, [], ◌∷◌, ◌++◌}
 use lib.ListN.{drop}
 use lib.Dec.{eqb}
 use borrow.Author.Tests.{eqb-true}
-use Rattle.wire.specs.Choose.{pick, and, or}
+use Rattle.wire.specs.Choose.{pick, or}
 use Rattle.wire.specs.Tag.{ident_of}
-use Rattle.wire.specs.Kind.{struct}
 use Rattle.payload.specs.declared.table.TypeRow.{TypeRow}
 use Rattle.payload.specs.Table.{find}
-use Rattle.payload.specs.Reading.{lacks}
 use Rattle.payload.specs.Tree.{Members, stop, mem, member_bytes, bytes_of}
 use Rattle.payload.specs.Formed.{row_for, for_row, unknowns, has, misses, KnownAs, Each, each_stop, each_unknown, each_leaf, each_struct}
-use Rattle.payload.specs.Writing.{nothing, leaf}
 use Rattle.payload.specs.Paths.{at_end, path_row, at_path, Fits, fits_stop, fits_unknown, fits_leaf, fits_struct}
 use Rattle.payload.proofs.Joined.{or_left}
 use Rattle.payload.proofs.Trees.Level.{none_some}

@@ -1,19 +1,18 @@
 -- The required rows of a level, one at a time, as the code goes over the cells.
 -- Assumes nothing.
-use mathlib.Core.Path.{◌≡◌, refl, sym, ap, ◌∙◌}
-use Prim.Native.Nat.{ℕ, suc, ◌+◌, ◌%◌, ◌≤◌, ◌<◌}
+use mathlib.Core.Path.{◌≡◌, refl, ap, ◌∙◌}
+use Prim.Native.Nat.{ℕ, suc, ◌≤◌, ◌<◌}
 use native.Mathlib.Omega.{arith}
 use mathlib.Core.Bool.{Bool, true, false}
-use mathlib.Core.List.{List, [], ◌∷◌}
-use lib.ListN.{length, drop, get_or}
+use mathlib.Core.List.{List, ◌∷◌}
+use lib.ListN.{drop, get_or}
 use lib.Seq.{drop-cons}
 use lib.Dec.{ltb, eqb}
 use borrow.Author.Tests.{lt-ltb, le-ltb, eq-eqb, eqb-true, ltb-true, ltb-false}
 use Rattle.wire.specs.Choose.{and, or}
 use Rattle.payload.specs.declared.table.TypeRow.{TypeRow}
-use Rattle.payload.specs.declared.row.Row.{Row}
-use Rattle.payload.specs.Cells.{row_in, level_in, kind_in, required_in, table_in}
-use Rattle.payload.specs.Row.{absent_row, is_absent}
+use Rattle.payload.specs.Cells.{level_in, kind_in, required_in, table_in}
+use Rattle.payload.specs.Row.{absent_row}
 use Rattle.payload.specs.Reading.{lacks}
 use Rattle.payload.specs.Walking.{kept_row, kept}
 use Rattle.payload.proofs.Rules.CellLaws.{rows_end, rows_here, row_at_lem, table_length}

@@ -5,7 +5,7 @@ use Prim.Native.Nat.{ℕ, zero, suc, ◌+◌, ◌-◌, ◌*◌, ◌≤◌, ◌<�
 use native.Mathlib.Numerals.{add-one}
 use native.Mathlib.Omega.{arith}
 use mathlib.Core.Bool.{Bool, true, false}
-use mathlib.Core.List.{List, []}
+use mathlib.Core.List.{List}
 use lib.ListN.{length, drop, set, length-set}
 use lib.Seq.{slice, slice_empty}
 use Rattle.wire.specs.Choose.{pick}
@@ -24,22 +24,7 @@ use Rattle.payload.specs.Table.{row_at}
 use Rattle.payload.specs.Cells.{table_in, Stops}
 use Rattle.payload.specs.Row.{members_row}
 use Rattle.payload.specs.Reading.{Walked, refused, walked, Moved, step_of, behind, member_by, lacks, end_of, level_by, walk}
-use Rattle.payload.specs.Walking.{
-  kept_row,
-  kept,
-  step_in,
-  walk_in,
-  moved_in,
-  SpotIn,
-  Steady,
-  MemberIn,
-  MemberAt,
-  inner_of,
-  Ready,
-  Onward,
-  LevelRead,
-  MemberRead,
-}
+use Rattle.payload.specs.Walking.{kept_row, kept, step_in, walk_in, moved_in, MemberIn, MemberAt, inner_of, Ready, Onward, LevelRead, MemberRead}
 use Rattle.payload.proofs.Rules.CellLaws.{table_length}
 use Rattle.payload.proofs.Walking.KeptLaws.{kept_set, kept_struct}
 

@@ -1,17 +1,17 @@
 -- A member, by the tests that the code makes: its content, its row, its tag.
 -- Assumes nothing.
 use mathlib.Core.Path.{◌≡◌, refl, sym, ap, subst, ◌∙◌}
-use Prim.Native.Nat.{ℕ, zero, suc, ◌+◌, ◌-◌, ◌/◌, ◌%◌, ◌^◌, ◌≤◌, ◌<◌}
+use Prim.Native.Nat.{ℕ, suc, ◌+◌, ◌-◌, ◌%◌, ◌^◌, ◌≤◌, ◌<◌}
 use native.Mathlib.Nat.{mod-eq_of_lt}
 use native.Mathlib.Omega.{arith}
-use mathlib.Core.Bool.{Bool, true, false}
+use mathlib.Core.Bool.{true, false}
 use mathlib.Core.Option.{Option, none, some}
 use mathlib.Core.List.{List, [], ◌∷◌}
 use lib.ListN.{length, get_or, drop}
 use lib.Seq.{slice, slice-cons, slice_empty, length-slice}
 use lib.Dec.{eqb}
 use Rattle.payload.proofs.Joined.{and_left}
-use borrow.Author.Tests.{leb-true, lt-ltb, le-ltb, eq-eqb, ne_eqb}
+use borrow.Author.Tests.{leb-true, lt-ltb, eq-eqb, ne_eqb}
 use Rattle.wire.specs.Choose.{pick}
 use Rattle.wire.specs.Number.{big, number_of}
 use Rattle.wire.specs.Tag.{wire_of, ident_of}
@@ -20,7 +20,6 @@ use Rattle.wire.specs.Text.{string_fits}
 use Rattle.wire.specs.declared.verdict.Verdict.{Verdict}
 use Rattle.wire.specs.declared.verdict.Verdict.TheVariants.{TagCut, Wire, Twice, Array, Text}
 use Rattle.payload.specs.declared.table.TypeRow.{TypeRow}
-use Rattle.payload.specs.declared.row.Row.{Row}
 use Rattle.payload.specs.declared.member.Frame.{Frame}
 use Rattle.payload.specs.declared.member.Span.{Span}
 use Rattle.payload.specs.declared.member.Spot.{Spot}
@@ -31,27 +30,11 @@ use Rattle.payload.specs.declared.member.Member.TheVariants.{Bad, Unknown, Leaf,
 use Rattle.payload.specs.Table.{find, row_at}
 use Rattle.payload.specs.declared.table.Found.{Found}
 use Rattle.payload.specs.declared.table.Found.TheVariants.{At, Nothing}
-use Rattle.payload.specs.Cells.{row_in, rows_in, kind_in, level_in, table_in, found_at, Within}
+use Rattle.payload.specs.Cells.{row_in, kind_in, table_in, found_at, Within}
 use Rattle.payload.proofs.Rules.CellLaws.{row_at_lem, table_length}
 use Rattle.payload.specs.Row.{is_absent, shown_of, absent_row}
-use Rattle.payload.specs.Reading.{Body, cut, content, body_of, Step, refuse, unknown, content_fits, known, met, step_of}
-use Rattle.payload.specs.Walking.{
-  kept_row,
-  kept,
-  body_in,
-  Inside,
-  step_in,
-  SpotIn,
-  KnownIn,
-  ContentRead,
-  KnownRead,
-  UnknownIn,
-  UnknownRead,
-  Steady,
-  MemberIn,
-  MemberAt,
-  spot_of,
-}
+use Rattle.payload.specs.Reading.{Body, body_of, Step, refuse, unknown, content_fits, known, met, step_of}
+use Rattle.payload.specs.Walking.{kept_row, kept, body_in, Inside, SpotIn, KnownIn, ContentRead, KnownRead, UnknownIn, UnknownRead, Steady, MemberIn, MemberAt, spot_of}
 use Rattle.payload.proofs.Walking.KeptLaws.{kept_absent, kept_at}
 
 -- ---- a known member's content

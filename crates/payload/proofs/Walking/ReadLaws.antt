@@ -1,17 +1,16 @@
 -- A payload's reading, from the walk of level 1.
 -- Assumes nothing.
-use mathlib.Core.Path.{◌≡◌, refl, sym, ap, ◌∙◌}
+use mathlib.Core.Path.{◌≡◌, refl, sym, ◌∙◌}
 use Prim.Native.Nat.{ℕ, suc, ◌≤◌, ◌<◌}
 use native.Mathlib.Omega.{arith}
 use mathlib.Core.Bool.{Bool, true, false}
 use mathlib.Core.List.{List}
 use lib.ListN.{length, replicate}
-use lib.Seq.{slice, take-length}
+use lib.Seq.{take-length}
 use borrow.Author.Tests.{lt-ltb, le-ltb, eq-eqb, ne_eqb}
 use Rattle.wire.specs.Verdict.{verdict_number}
 use Rattle.wire.specs.declared.verdict.Verdict.{Verdict}
 use Rattle.wire.specs.declared.verdict.Verdict.TheVariants.{Accepted, Table as NoTable, Room, Large}
-use Rattle.payload.specs.declared.table.TypeRow.{TypeRow}
 use Rattle.payload.specs.declared.table.Table.{Table}
 use Rattle.payload.specs.declared.read.Reading.{Reading}
 use Rattle.payload.specs.declared.read.Ending.{Ending}
@@ -20,8 +19,7 @@ use Rattle.payload.specs.declared.member.Frame.{Frame}
 use Rattle.payload.specs.declared.read.Cursor.{Cursor}
 use Rattle.payload.specs.declared.read.Walk.{Walk}
 use Rattle.payload.specs.declared.read.Walk.TheVariants.{Going, Refused}
-use Rattle.payload.specs.Table.{type_rows, table_fits}
-use Rattle.payload.specs.Cells.{rows_in, table_in, FineTable, Filled, Checked}
+use Rattle.payload.specs.Cells.{rows_in, table_in, FineTable, Checked}
 use Rattle.payload.specs.Reading.{payload_most, walked_of, cleared, answer_of, checked_of, reading_of}
 use Rattle.payload.specs.Walking.{kept_from, kept, walk_in, LevelRead, stop_at, settled, Ended, after_of, Admitted}
 use Rattle.payload.proofs.Walking.KeptLaws.{kept_none}

@@ -19,10 +19,9 @@ use Rattle.payload.specs.declared.judge.Judged.{Judged}
 use Rattle.payload.specs.declared.judge.Judged.TheVariants.{Fine, Outside, Unfit}
 use Rattle.payload.specs.Table.{type_rows, table_fits}
 use Rattle.payload.specs.Reading.{payload_most}
-use Rattle.payload.specs.Tree.{bytes_of}
 use Rattle.payload.specs.Judging.{judged_of}
 use Rattle.payload.specs.Writing.{tree_of, some_wide, Outcome, refused, done, sized_of, if_fine, outcome_of, answer_is, output_is, writing_of, output_of}
-use Rattle.payload.specs.Settled.{payload_of, Accepts, WriteLaw, WriteSettled}
+use Rattle.payload.specs.Settled.{payload_of, Accepts, WriteSettled}
 use Rattle.payload.proofs.Joined.{clash}
 
 module _ (rows : List Row) (room : ℕ) (t : Table) (buf : List ℕ) where

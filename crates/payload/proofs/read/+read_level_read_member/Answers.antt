@@ -1,19 +1,6 @@
 -- `payload::read::read_level` and `payload::read::read_member` meet their contracts. Each return is one law of the definition.
 use Rattle.std.proofs.Common.{refl, sym, ◌∙◌, arith}
-use Rattle.payload.proofs.Walking.LevelLaws.{
-  way_none,
-  way_more,
-  way_refused,
-  way_missing,
-  way_closed,
-  read_bad,
-  read_unknown,
-  read_leaf,
-  inner_low,
-  inner_less,
-  inner_ready,
-  read_struct,
-}
+use Rattle.payload.proofs.Walking.LevelLaws.{way_none, way_more, way_refused, way_missing, way_closed, read_bad, read_unknown, read_leaf, inner_less, inner_ready, read_struct}
 use Rattle.payload.proofs.read.+read_level_read_member.Goals as goal
 
 pub read_level-loop-u-init : goal.read_level-loop-u-init

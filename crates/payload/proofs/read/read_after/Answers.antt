@@ -1,4 +1,3 @@
-use Prim.Native.Nat.{◌-◌}
 use native.Mathlib.Omega.{arith}
 use Rattle.payload.proofs.Walking.KeptLaws.{kept_more, kept_all}
 use Rattle.payload.proofs.read.read_after.Goals as goal

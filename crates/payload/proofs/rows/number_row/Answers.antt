@@ -5,7 +5,7 @@ use borrow.Author.Rules.{sfits_of}
 use mir.Facts.{to_z-of_z}
 use borrow.Author.Tests.{eq-eqb, ne_eqb, lt-ltb, le-ltb}
 use Rattle.wire.specs.Number.{signed_of}
-use Rattle.payload.specs.Row.{plain, number_row}
+use Rattle.payload.specs.Row.{number_row}
 use Rattle.payload.proofs.rows.number_row.Goals as goal
 
 pub returns-then-k-eq-BOOLEAN : goal.returns-then-k-eq-BOOLEAN

@@ -1,5 +1,4 @@
 use mathlib.Core.Path.{refl, sym, ◌∙◌}
-use Prim.Native.Nat.{◌-◌}
 use native.Mathlib.Omega.{arith}
 use Rattle.payload.proofs.Rules.CellLaws.{find_this, within_later}
 use Rattle.payload.proofs.table.find_in.Goals as goal

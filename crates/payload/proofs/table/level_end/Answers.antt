@@ -1,6 +1,4 @@
-use Prim.Native.Nat.{◌-◌}
 use native.Mathlib.Omega.{arith}
-use Rattle.payload.specs.Cells.{level_in}
 use Rattle.payload.proofs.Rules.CellLaws.{deep_more}
 use Rattle.payload.proofs.table.level_end.Goals as goal
 
