@@ -16,9 +16,11 @@ mod show;
 mod store;
 
 use archive::find;
-use text::input::Input;
+use std::io::Input;
+use std::rt::{Env, Files};
+use text::file::Standard;
 use text::number::Number;
-use text::{argument, file, list, number, slice};
+use text::{argument, file, input, list, number, slice};
 use wire::id::SessionId;
 
 // What the program is asked for.
@@ -60,20 +62,32 @@ fn on_bytes(command: usize, path: &[u8], bytes: &[u8], n: u64) -> bool {
 }
 
 // The same of a file's bytes; of a longer one those that fill the buffer, which are over the most that an archive has.
-fn on_file(rt: &HostRuntime, command: usize, path: &[u8], n: u64) -> bool {
+fn on_file<R: Files + Input>(
+    rt: &R,
+    standard: &mut Standard,
+    command: usize,
+    path: &[u8],
+    n: u64,
+) -> bool {
     let mut buf = io::large_buffer();
-    match file::read_file(rt, path, &mut buf) {
-        Input::Bytes(k) => on_bytes(command, path, slice::between(&buf, 0, k), n),
-        Input::Long => on_bytes(command, path, &buf, n),
-        Input::Failed => true,
+    match file::read_file(rt, standard, path, &mut buf) {
+        input::Input::Bytes(k) => on_bytes(command, path, slice::between(&buf, 0, k), n),
+        input::Input::Long => on_bytes(command, path, &buf, n),
+        input::Input::Failed => true,
     }
 }
 
 // The same of the file that an argument names; answers whether standard output was written.
-fn on_argument(rt: &HostRuntime, command: usize, i: usize, n: u64) -> bool {
+fn on_argument<R: Env + Files + Input>(
+    rt: &R,
+    standard: &mut Standard,
+    command: usize,
+    i: usize,
+    n: u64,
+) -> bool {
     let mut path = io::buffer();
-    let k = argument::read(rt, i, &mut path);
-    if on_file(rt, command, &path[..k], n) {
+    let k = argument::get(rt, i, &mut path);
+    if on_file(rt, standard, command, &path[..k], n) {
         return true;
     }
     complain::unwritten();
@@ -81,11 +95,12 @@ fn on_argument(rt: &HostRuntime, command: usize, i: usize, n: u64) -> bool {
 }
 
 // Does what is asked of each archive that the arguments name.
-fn on_all(rt: &HostRuntime, command: usize) {
+fn on_all<R: Env + Files + Input>(rt: &R, command: usize) {
+    let mut standard = Standard::new();
     let count = argument::count(rt);
     let mut i: usize = 2;
     while i < count {
-        if !on_argument(rt, command, i, 0) {
+        if !on_argument(rt, &mut standard, command, i, 0) {
             return;
         }
         i += 1;
@@ -93,13 +108,13 @@ fn on_all(rt: &HostRuntime, command: usize) {
 }
 
 // Does what is asked of the message that the last argument says.
-fn on_message(rt: &HostRuntime, command: usize, most: u64) {
+fn on_message<R: Env + Files + Input>(rt: &R, command: usize, most: u64) {
     let mut word = io::buffer();
-    let k = argument::read(rt, 3, &mut word);
+    let k = argument::get(rt, 3, &mut word);
     match number::parse(&word[..k]) {
         Number::Is(n) => {
             if n <= most {
-                on_argument(rt, command, 2, n);
+                on_argument(rt, &mut Standard::new(), command, 2, n);
                 return;
             }
             complain::of_most(&word[..k], most);
@@ -121,8 +136,9 @@ fn is_called(command: usize, count: usize) -> bool {
 }
 
 // Whether an argument fits the buffer that it is read into; one that doesn't is said.
-fn fits(rt: &HostRuntime, i: usize) -> bool {
-    if argument::is_long(rt, i) {
+fn fits(rt: &impl Env, i: usize) -> bool {
+    let mut word = io::buffer();
+    if argument::is_longer(rt, i, &mut word) {
         complain::of_argument(i);
         return false;
     }
@@ -130,7 +146,7 @@ fn fits(rt: &HostRuntime, i: usize) -> bool {
 }
 
 // Whether all arguments fit.
-fn all_fit(rt: &HostRuntime) -> bool {
+fn all_fit(rt: &impl Env) -> bool {
     let count = argument::count(rt);
     let mut i: usize = 1;
     while i < count {
@@ -147,7 +163,7 @@ fn main(rt: HostRuntime) {
         return;
     }
     let mut word = io::buffer();
-    let n = argument::read(&rt, 1, &mut word);
+    let n = argument::get(&rt, 1, &mut word);
     let command = list::index(
         b"list;verify;take;take-line;find;find-line;add;",
         &word[..n],

@@ -3,11 +3,12 @@
 
 use super::{complain, mode, phrase, reason};
 use archive::{add, open};
-use std::fs;
-use std::fs::{File, OpenOptions};
-use std::io::{Error, ErrorKind, Result, Write};
-use text::input::Input;
-use text::{argument, file, slice};
+use std::fs::{OpenFile, OpenOptions};
+use std::io::{Error, ErrorKind, Input, Read, Result, Write};
+use std::rt::{Env, Files};
+use std::{fs, str};
+use text::file::Standard;
+use text::{argument, failure, file, input, slice};
 use wire::part;
 
 // What was done so far: whether all went well, the size of the records or of the file in the buffer, and the mode of the archive's file,
@@ -67,23 +68,23 @@ fn opened(path: &[u8], bytes: &[u8], mode: u32) -> Work {
 }
 
 // The archive of an open file, read into a buffer.
-fn read_archive(old: File, path: &[u8], buf: &mut [u8]) -> Work {
+fn read_archive<F: Read + OpenFile + Drop>(old: F, path: &[u8], buf: &mut [u8]) -> Work {
     let mode = match mode::of(&old) {
         Ok(mode) => mode,
         Err(why) => {
-            file::fail(path, why);
+            failure::say(path, &why);
             return failed();
         }
     };
     match file::read_open(old, path, buf) {
-        Input::Bytes(n) => opened(path, slice::between(buf, 0, n), mode),
-        Input::Long => opened(path, buf, mode),
-        Input::Failed => failed(),
+        input::Input::Bytes(n) => opened(path, slice::between(buf, 0, n), mode),
+        input::Input::Long => opened(path, buf, mode),
+        input::Input::Failed => failed(),
     }
 }
 
 // The archive of a name, read into a buffer; one that is missing has no records.
-fn old_archive(rt: &HostRuntime, path: &[u8], buf: &mut [u8]) -> Work {
+fn old_archive(rt: &impl Files, path: &[u8], buf: &mut [u8]) -> Work {
     match file::open(rt, path) {
         Ok(old) => read_archive(old, path, buf),
         Err(why) => not_opened(path, why),
@@ -95,7 +96,7 @@ fn not_opened(path: &[u8], why: Error) -> Work {
     if why.kind() == ErrorKind::NotFound {
         return well(0, 0);
     }
-    file::fail(path, why);
+    failure::say(path, &why);
     failed()
 }
 
@@ -111,24 +112,41 @@ fn with_message(path: &[u8], m: &[u8], file: &mut [u8], w: Work) -> Work {
 }
 
 // A file's bytes added to the records; of a longer file those that fill the buffer, which are over the most that a message has.
-fn with_file(rt: &HostRuntime, path: &[u8], file: &mut [u8], w: Work) -> Work {
+fn with_file<R: Files + Input>(
+    rt: &R,
+    standard: &mut Standard,
+    path: &[u8],
+    file: &mut [u8],
+    w: Work,
+) -> Work {
     let mut buf = io::large_buffer();
-    match file::read_file(rt, path, &mut buf) {
-        Input::Bytes(n) => with_message(path, slice::between(&buf, 0, n), file, w),
-        Input::Long => with_message(path, &buf, file, w),
-        Input::Failed => failed(),
+    match file::read_file(rt, standard, path, &mut buf) {
+        input::Input::Bytes(n) => with_message(path, slice::between(&buf, 0, n), file, w),
+        input::Input::Long => with_message(path, &buf, file, w),
+        input::Input::Failed => failed(),
     }
 }
 
 // The file that an argument names added to the records.
-fn with_argument(rt: &HostRuntime, i: usize, file: &mut [u8], w: Work) -> Work {
+fn with_argument<R: Env + Files + Input>(
+    rt: &R,
+    standard: &mut Standard,
+    i: usize,
+    file: &mut [u8],
+    w: Work,
+) -> Work {
     let mut path = io::buffer();
-    let k = argument::read(rt, i, &mut path);
-    with_file(rt, &path[..k], file, w)
+    let k = argument::get(rt, i, &mut path);
+    with_file(rt, standard, &path[..k], file, w)
 }
 
 // The files that the arguments behind the archive name added to the records, up to the first that is refused.
-fn with_files(rt: &HostRuntime, file: &mut [u8], start: Work) -> Work {
+fn with_files<R: Env + Files + Input>(
+    rt: &R,
+    standard: &mut Standard,
+    file: &mut [u8],
+    start: Work,
+) -> Work {
     let count = argument::count(rt);
     let mut w = start;
     let mut i: usize = 3;
@@ -136,7 +154,7 @@ fn with_files(rt: &HostRuntime, file: &mut [u8], start: Work) -> Work {
         if !w.ok {
             return w;
         }
-        w = with_argument(rt, i, file, w);
+        w = with_argument(rt, standard, i, file, w);
         i += 1;
     }
     w
@@ -158,7 +176,7 @@ fn closed(path: &[u8], file: &mut [u8], w: Work) -> Work {
 }
 
 // The mode of the archive that was there for the new file.
-fn moded(file: &File, mode: u32) -> Result<()> {
+fn moded(file: &impl OpenFile, mode: u32) -> Result<()> {
     if mode == 0 {
         return Ok(());
     }
@@ -166,38 +184,46 @@ fn moded(file: &File, mode: u32) -> Result<()> {
 }
 
 // Writes the new file, gives it its mode and brings all of it to the disk.
-fn stored(file: &mut File, bytes: &[u8], mode: u32) -> Result<()> {
+fn stored<F: Write + OpenFile>(file: &mut F, bytes: &[u8], mode: u32) -> Result<()> {
     file.write_all(bytes)?;
     moded(file, mode)?;
     file.sync_all()
 }
 
 // Writes the new file, where all went well, and answers whether all of it is on the disk.
-fn written(file: &mut File, new: &[u8], bytes: &[u8], w: Work) -> bool {
+fn written<F: Write + OpenFile>(file: &mut F, new: &[u8], bytes: &[u8], w: Work) -> bool {
     if !w.ok {
         return false;
     }
     match stored(file, bytes, w.mode) {
         Ok(()) => true,
         Err(why) => {
-            file::fail(new, why);
+            failure::say(new, &why);
             false
         }
     }
 }
 
 // Fills the new file: the archive that is there and the files. Answers whether all went well.
-fn filled(rt: &HostRuntime, out: &mut File, path: &[u8], new: &[u8]) -> bool {
+fn filled<R: Env + Files + Input>(rt: &R, out: &mut R::File, path: &[u8], new: &[u8]) -> bool {
     let mut file = io::large_buffer();
     let old = old_archive(rt, path, &mut file);
-    let full = with_files(rt, &mut file, old);
+    let full = with_files(rt, &mut Standard::new(), &mut file, old);
     let whole = closed(path, &mut file, full);
     written(out, new, slice::between(&file, 0, whole.size), whole)
 }
 
+// A name as text, which the system's calls ask for.
+fn text_of(name: &[u8]) -> Result<&str> {
+    match str::from_utf8(name) {
+        Ok(text) => Ok(text),
+        Err(_) => Err(Error::from_raw_os_error(failure::NO_TEXT)),
+    }
+}
+
 // Makes the new file, where there is none of its name.
-fn made(rt: &HostRuntime, new: &[u8]) -> Result<File> {
-    let name = file::path(new)?;
+fn made<R: Files>(rt: &R, new: &[u8]) -> Result<R::File> {
+    let name = text_of(new)?;
     OpenOptions::new()
         .write(true)
         .create_new(true)
@@ -210,45 +236,45 @@ fn not_made(new: &[u8], why: Error) {
         complain::of_file(new, phrase::IS_THERE);
         return;
     }
-    file::fail(new, why);
+    failure::say(new, &why);
 }
 
 // Takes the new file off the disk.
-fn unlinked(rt: &HostRuntime, new: &[u8]) -> Result<()> {
-    fs::remove_file(rt, file::path(new)?)
+fn unlinked(rt: &impl Files, new: &[u8]) -> Result<()> {
+    fs::remove_file(rt, text_of(new)?)
 }
 
 // Removes the new file.
-fn removed(rt: &HostRuntime, new: &[u8]) {
+fn removed(rt: &impl Files, new: &[u8]) {
     if let Err(why) = unlinked(rt, new) {
-        file::fail(new, why);
+        failure::say(new, &why);
     }
 }
 
 // Moves the new file to the archive's name.
-fn moved(rt: &HostRuntime, new: &[u8], path: &[u8]) -> Result<()> {
-    let from = file::path(new)?;
-    fs::rename(rt, from, file::path(path)?)
+fn moved(rt: &impl Files, new: &[u8], path: &[u8]) -> Result<()> {
+    let from = text_of(new)?;
+    fs::rename(rt, from, text_of(path)?)
 }
 
 // Gives the new file the archive's name, where all went well.
-fn renamed(rt: &HostRuntime, new: &[u8], path: &[u8]) -> bool {
+fn renamed(rt: &impl Files, new: &[u8], path: &[u8]) -> bool {
     match moved(rt, new, path) {
         Ok(()) => true,
         Err(why) => {
-            file::fail(path, why);
+            failure::say(path, &why);
             false
         }
     }
 }
 
 // Closes the new file. What it was to hold is on the disk already where all went well, so no error of closing matters.
-fn shut(file: File) {
+fn shut<F: Drop>(file: F) {
     drop(file);
 }
 
 // Fills the new file and gives it the archive's name; whatever fails leaves no new file.
-fn put(rt: &HostRuntime, file: File, path: &[u8], new: &[u8]) {
+fn put<R: Env + Files + Input>(rt: &R, file: R::File, path: &[u8], new: &[u8]) {
     let mut out = file;
     let is_filled = filled(rt, &mut out, path, new);
     shut(out);
@@ -259,7 +285,7 @@ fn put(rt: &HostRuntime, file: File, path: &[u8], new: &[u8]) {
 }
 
 // Makes the new file, fills it and gives it the archive's name.
-fn replaced(rt: &HostRuntime, path: &[u8], new: &[u8]) {
+fn replaced<R: Env + Files + Input>(rt: &R, path: &[u8], new: &[u8]) {
     match made(rt, new) {
         Ok(file) => put(rt, file, path, new),
         Err(why) => not_made(new, why),
@@ -267,9 +293,9 @@ fn replaced(rt: &HostRuntime, path: &[u8], new: &[u8]) {
 }
 
 // Adds the files that the arguments behind the archive name.
-pub fn add_files(rt: &HostRuntime) {
+pub fn add_files<R: Env + Files + Input>(rt: &R) {
     let mut path = io::buffer();
-    let k = argument::read(rt, 2, &mut path);
+    let k = argument::get(rt, 2, &mut path);
     let mut name = io::buffer();
     let n = new_name(&path[..k], &mut name);
     if n == 0 {
