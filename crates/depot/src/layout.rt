@@ -48,7 +48,7 @@ pub fn index_size(entries: usize) -> usize
 }
 
 // Where the trailer starts, and what it says: the index's offset, which is the records' size, the number of entries, the form number.
-#[derive(Drop)]
+#[derive(Clone, Copy)]
 pub struct Trailer {
     pub at: usize,
     pub size: usize,

@@ -16,10 +16,11 @@ mod show;
 mod store;
 
 use archive::find;
-use libc::ENAMETOOLONG;
-use text::input::Input;
+use std::io::Input;
+use std::rt::{Env, Files};
+use text::file::Standard;
 use text::number::Number;
-use text::{file, list, number, slice};
+use text::{argument, file, input, list, number, slice};
 use wire::id::SessionId;
 
 // What the program is asked for.
@@ -61,20 +62,32 @@ fn on_bytes(command: usize, path: &[u8], bytes: &[u8], n: u64) -> bool {
 }
 
 // The same of a file's bytes; of a longer one those that fill the buffer, which are over the most that an archive has.
-fn on_file(command: usize, path: &[u8], n: u64) -> bool {
+fn on_file<R: Files + Input>(
+    rt: &R,
+    standard: &mut Standard,
+    command: usize,
+    path: &[u8],
+    n: u64,
+) -> bool {
     let mut buf = io::large_buffer();
-    match file::read_file(path, &mut buf) {
-        Input::Bytes(k) => on_bytes(command, path, slice::between(&buf, 0, k), n),
-        Input::Long => on_bytes(command, path, &buf, n),
-        Input::Failed => true,
+    match file::read_file(rt, standard, path, &mut buf) {
+        input::Input::Bytes(k) => on_bytes(command, path, slice::between(&buf, 0, k), n),
+        input::Input::Long => on_bytes(command, path, &buf, n),
+        input::Input::Failed => true,
     }
 }
 
 // The same of the file that an argument names; answers whether standard output was written.
-fn on_argument(command: usize, i: usize, n: u64) -> bool {
+fn on_argument<R: Env + Files + Input>(
+    rt: &R,
+    standard: &mut Standard,
+    command: usize,
+    i: usize,
+    n: u64,
+) -> bool {
     let mut path = io::buffer();
-    let k = os::arg(i, &mut path);
-    if on_file(command, &path[..k], n) {
+    let k = argument::get(rt, i, &mut path);
+    if on_file(rt, standard, command, &path[..k], n) {
         return true;
     }
     complain::unwritten();
@@ -82,11 +95,12 @@ fn on_argument(command: usize, i: usize, n: u64) -> bool {
 }
 
 // Does what is asked of each archive that the arguments name.
-fn on_all(command: usize) {
-    let count = os::arg_count();
+fn on_all<R: Env + Files + Input>(rt: &R, command: usize) {
+    let mut standard = Standard::new();
+    let count = argument::count(rt);
     let mut i: usize = 2;
     while i < count {
-        if !on_argument(command, i, 0) {
+        if !on_argument(rt, &mut standard, command, i, 0) {
             return;
         }
         i += 1;
@@ -94,13 +108,13 @@ fn on_all(command: usize) {
 }
 
 // Does what is asked of the message that the last argument says.
-fn on_message(command: usize, most: u64) {
+fn on_message<R: Env + Files + Input>(rt: &R, command: usize, most: u64) {
     let mut word = io::buffer();
-    let k = os::arg(3, &mut word);
+    let k = argument::get(rt, 3, &mut word);
     match number::parse(&word[..k]) {
         Number::Is(n) => {
             if n <= most {
-                on_argument(command, 2, n);
+                on_argument(rt, &mut Standard::new(), command, 2, n);
                 return;
             }
             complain::of_most(&word[..k], most);
@@ -122,10 +136,9 @@ fn is_called(command: usize, count: usize) -> bool {
 }
 
 // Whether an argument fits the buffer that it is read into; one that doesn't is said.
-fn fits(i: usize) -> bool {
+fn fits(rt: &impl Env, i: usize) -> bool {
     let mut word = io::buffer();
-    os::arg(i, &mut word);
-    if os::errno() == ENAMETOOLONG {
+    if argument::is_longer(rt, i, &mut word) {
         complain::of_argument(i);
         return false;
     }
@@ -133,11 +146,11 @@ fn fits(i: usize) -> bool {
 }
 
 // Whether all arguments fit.
-fn all_fit() -> bool {
-    let count = os::arg_count();
+fn all_fit(rt: &impl Env) -> bool {
+    let count = argument::count(rt);
     let mut i: usize = 1;
     while i < count {
-        if !fits(i) {
+        if !fits(rt, i) {
             return false;
         }
         i += 1;
@@ -145,24 +158,24 @@ fn all_fit() -> bool {
     true
 }
 
-fn main() {
-    if !all_fit() {
+fn main(rt: HostRuntime) {
+    if !all_fit(&rt) {
         return;
     }
     let mut word = io::buffer();
-    let n = os::arg(1, &mut word);
+    let n = argument::get(&rt, 1, &mut word);
     let command = list::index(
         b"list;verify;take;take-line;find;find-line;add;",
         &word[..n],
     );
-    if !is_called(command, os::arg_count()) {
+    if !is_called(command, argument::count(&rt)) {
         complain::usage();
         return;
     }
     match command {
-        LIST | VERIFY => on_all(command),
-        TAKE | TAKE_LINE => on_message(command, 18446744073709551615),
-        FIND | FIND_LINE => on_message(command, 65535),
-        _ => store::add_files(),
+        LIST | VERIFY => on_all(&rt, command),
+        TAKE | TAKE_LINE => on_message(&rt, command, 18446744073709551615),
+        FIND | FIND_LINE => on_message(&rt, command, 65535),
+        _ => store::add_files(&rt),
     }
 }

@@ -1,11 +1,11 @@
 // Archives and messages on standard output: the lines of list and verify, and a message's bytes.
 
 use super::layout::FORM;
+use super::phrase::OUT;
 use super::{layout, phrase, reason};
 use archive::find::Found;
 use archive::open::Opening;
 use archive::{find, form, open};
-use libc::STDOUT_FILENO as OUT;
 use text::say;
 use wire::header;
 

@@ -3,14 +3,17 @@
 
 use super::{complain, mode, phrase, reason};
 use archive::{add, open};
-use libc::{EEXIST, ENOENT};
-use text::input::Input;
-use text::{file, slice};
+use std::fs::{OpenFile, OpenOptions};
+use std::io::{Error, ErrorKind, Input, Read, Result, Write};
+use std::rt::{Env, Files};
+use std::{fs, str};
+use text::file::Standard;
+use text::{argument, failure, file, input, slice};
 use wire::part;
 
 // What was done so far: whether all went well, the size of the records or of the file in the buffer, and the mode of the archive's file,
 // 0 where there is none.
-#[derive(Drop)]
+#[derive(Clone, Copy)]
 struct Work {
     ok: bool,
     size: usize,
@@ -65,31 +68,36 @@ fn opened(path: &[u8], bytes: &[u8], mode: u32) -> Work {
 }
 
 // The archive of an open file, read into a buffer.
-fn read_archive(fd: i32, path: &[u8], buf: &mut [u8]) -> Work {
-    let mode = mode::of(fd);
-    if mode == 0 {
-        os::fail(path);
-        libc::close(fd);
-        return failed();
-    }
-    match file::read_open(fd, path, buf) {
-        Input::Bytes(n) => opened(path, slice::between(buf, 0, n), mode),
-        Input::Long => opened(path, buf, mode),
-        Input::Failed => failed(),
+fn read_archive<F: Read + OpenFile + Drop>(old: F, path: &[u8], buf: &mut [u8]) -> Work {
+    let mode = match mode::of(&old) {
+        Ok(mode) => mode,
+        Err(why) => {
+            failure::say(path, &why);
+            return failed();
+        }
+    };
+    match file::read_open(old, path, buf) {
+        input::Input::Bytes(n) => opened(path, slice::between(buf, 0, n), mode),
+        input::Input::Long => opened(path, buf, mode),
+        input::Input::Failed => failed(),
     }
 }
 
 // The archive of a name, read into a buffer; one that is missing has no records.
-fn old_archive(path: &[u8], buf: &mut [u8]) -> Work {
-    let fd = os::open_read(path);
-    if fd < 0 {
-        if os::errno() == ENOENT {
-            return well(0, 0);
-        }
-        os::fail(path);
-        return failed();
+fn old_archive(rt: &impl Files, path: &[u8], buf: &mut [u8]) -> Work {
+    match file::open(rt, path) {
+        Ok(old) => read_archive(old, path, buf),
+        Err(why) => not_opened(path, why),
     }
-    read_archive(fd, path, buf)
+}
+
+// An archive that can't be opened: one that is missing has no records, and of any other it is said why.
+fn not_opened(path: &[u8], why: Error) -> Work {
+    if why.kind() == ErrorKind::NotFound {
+        return well(0, 0);
+    }
+    failure::say(path, &why);
+    failed()
 }
 
 // A message added to the records.
@@ -104,32 +112,49 @@ fn with_message(path: &[u8], m: &[u8], file: &mut [u8], w: Work) -> Work {
 }
 
 // A file's bytes added to the records; of a longer file those that fill the buffer, which are over the most that a message has.
-fn with_file(path: &[u8], file: &mut [u8], w: Work) -> Work {
+fn with_file<R: Files + Input>(
+    rt: &R,
+    standard: &mut Standard,
+    path: &[u8],
+    file: &mut [u8],
+    w: Work,
+) -> Work {
     let mut buf = io::large_buffer();
-    match file::read_file(path, &mut buf) {
-        Input::Bytes(n) => with_message(path, slice::between(&buf, 0, n), file, w),
-        Input::Long => with_message(path, &buf, file, w),
-        Input::Failed => failed(),
+    match file::read_file(rt, standard, path, &mut buf) {
+        input::Input::Bytes(n) => with_message(path, slice::between(&buf, 0, n), file, w),
+        input::Input::Long => with_message(path, &buf, file, w),
+        input::Input::Failed => failed(),
     }
 }
 
 // The file that an argument names added to the records.
-fn with_argument(i: usize, file: &mut [u8], w: Work) -> Work {
+fn with_argument<R: Env + Files + Input>(
+    rt: &R,
+    standard: &mut Standard,
+    i: usize,
+    file: &mut [u8],
+    w: Work,
+) -> Work {
     let mut path = io::buffer();
-    let k = os::arg(i, &mut path);
-    with_file(&path[..k], file, w)
+    let k = argument::get(rt, i, &mut path);
+    with_file(rt, standard, &path[..k], file, w)
 }
 
 // The files that the arguments behind the archive name added to the records, up to the first that is refused.
-fn with_files(file: &mut [u8], start: Work) -> Work {
-    let count = os::arg_count();
+fn with_files<R: Env + Files + Input>(
+    rt: &R,
+    standard: &mut Standard,
+    file: &mut [u8],
+    start: Work,
+) -> Work {
+    let count = argument::count(rt);
     let mut w = start;
     let mut i: usize = 3;
     while i < count {
         if !w.ok {
             return w;
         }
-        w = with_argument(i, file, w);
+        w = with_argument(rt, standard, i, file, w);
         i += 1;
     }
     w
@@ -151,92 +176,131 @@ fn closed(path: &[u8], file: &mut [u8], w: Work) -> Work {
 }
 
 // The mode of the archive that was there for the new file.
-fn moded(fd: i32, mode: u32) -> bool {
+fn moded(file: &impl OpenFile, mode: u32) -> Result<()> {
     if mode == 0 {
-        return true;
+        return Ok(());
     }
-    libc::fchmod(fd, mode % 4096) == 0
+    mode::set(file, mode)
+}
+
+// Writes the new file, gives it its mode and brings all of it to the disk.
+fn stored<F: Write + OpenFile>(file: &mut F, bytes: &[u8], mode: u32) -> Result<()> {
+    file.write_all(bytes)?;
+    moded(file, mode)?;
+    file.sync_all()
 }
 
 // Writes the new file, where all went well, and answers whether all of it is on the disk.
-fn written(fd: i32, new: &[u8], bytes: &[u8], w: Work) -> bool {
+fn written<F: Write + OpenFile>(file: &mut F, new: &[u8], bytes: &[u8], w: Work) -> bool {
     if !w.ok {
         return false;
     }
-    if io::write_all(fd, bytes) && moded(fd, w.mode) && libc::fsync(fd) == 0 {
-        return true;
+    match stored(file, bytes, w.mode) {
+        Ok(()) => true,
+        Err(why) => {
+            failure::say(new, &why);
+            false
+        }
     }
-    os::fail(new);
-    false
 }
 
 // Fills the new file: the archive that is there and the files. Answers whether all went well.
-fn filled(fd: i32, path: &[u8], new: &[u8]) -> bool {
+fn filled<R: Env + Files + Input>(rt: &R, out: &mut R::File, path: &[u8], new: &[u8]) -> bool {
     let mut file = io::large_buffer();
-    let old = old_archive(path, &mut file);
-    let full = with_files(&mut file, old);
+    let old = old_archive(rt, path, &mut file);
+    let full = with_files(rt, &mut Standard::new(), &mut file, old);
     let whole = closed(path, &mut file, full);
-    written(fd, new, slice::between(&file, 0, whole.size), whole)
+    written(out, new, slice::between(&file, 0, whole.size), whole)
+}
+
+// A name as text, which the system's calls ask for.
+fn text_of(name: &[u8]) -> Result<&str> {
+    match str::from_utf8(name) {
+        Ok(text) => Ok(text),
+        Err(_) => Err(Error::from_raw_os_error(failure::NO_TEXT)),
+    }
+}
+
+// Makes the new file, where there is none of its name.
+fn made<R: Files>(rt: &R, new: &[u8]) -> Result<R::File> {
+    let name = text_of(new)?;
+    OpenOptions::new()
+        .write(true)
+        .create_new(true)
+        .open(rt, name)
 }
 
 // Says why the new file can't be made.
-fn not_made(new: &[u8]) {
-    if os::errno() == EEXIST {
+fn not_made(new: &[u8], why: Error) {
+    if why.kind() == ErrorKind::AlreadyExists {
         complain::of_file(new, phrase::IS_THERE);
         return;
     }
-    os::fail(new);
+    failure::say(new, &why);
+}
+
+// Takes the new file off the disk.
+fn unlinked(rt: &impl Files, new: &[u8]) -> Result<()> {
+    fs::remove_file(rt, text_of(new)?)
 }
 
 // Removes the new file.
-fn removed(new: &[u8]) {
-    if os::unlink(new) != 0 {
-        os::fail(new);
+fn removed(rt: &impl Files, new: &[u8]) {
+    if let Err(why) = unlinked(rt, new) {
+        failure::say(new, &why);
     }
+}
+
+// Moves the new file to the archive's name.
+fn moved(rt: &impl Files, new: &[u8], path: &[u8]) -> Result<()> {
+    let from = text_of(new)?;
+    fs::rename(rt, from, text_of(path)?)
 }
 
 // Gives the new file the archive's name, where all went well.
-fn renamed(new: &[u8], path: &[u8]) -> bool {
-    if os::rename(new, path) == 0 {
-        return true;
+fn renamed(rt: &impl Files, new: &[u8], path: &[u8]) -> bool {
+    match moved(rt, new, path) {
+        Ok(()) => true,
+        Err(why) => {
+            failure::say(path, &why);
+            false
+        }
     }
-    os::fail(path);
-    false
 }
 
-// Closes the new file.
-fn shut(fd: i32, new: &[u8]) -> bool {
-    if libc::close(fd) == 0 {
-        return true;
-    }
-    os::fail(new);
-    false
+// Closes the new file. What it was to hold is on the disk already where all went well, so no error of closing matters.
+fn shut<F: Drop>(file: F) {
+    drop(file);
 }
 
-// Makes the new file, fills it and gives it the archive's name; whatever fails leaves no new file.
-fn replaced(path: &[u8], new: &[u8]) {
-    let fd = os::create(new);
-    if fd < 0 {
-        not_made(new);
+// Fills the new file and gives it the archive's name; whatever fails leaves no new file.
+fn put<R: Env + Files + Input>(rt: &R, file: R::File, path: &[u8], new: &[u8]) {
+    let mut out = file;
+    let is_filled = filled(rt, &mut out, path, new);
+    shut(out);
+    if is_filled && renamed(rt, new, path) {
         return;
     }
-    let is_filled = filled(fd, path, new);
-    let is_shut = shut(fd, new);
-    if is_filled && is_shut && renamed(new, path) {
-        return;
+    removed(rt, new);
+}
+
+// Makes the new file, fills it and gives it the archive's name.
+fn replaced<R: Env + Files + Input>(rt: &R, path: &[u8], new: &[u8]) {
+    match made(rt, new) {
+        Ok(file) => put(rt, file, path, new),
+        Err(why) => not_made(new, why),
     }
-    removed(new);
 }
 
 // Adds the files that the arguments behind the archive name.
-pub fn add_files() {
+pub fn add_files<R: Env + Files + Input>(rt: &R) {
     let mut path = io::buffer();
-    let k = os::arg(2, &mut path);
+    let k = argument::get(rt, 2, &mut path);
     let mut name = io::buffer();
     let n = new_name(&path[..k], &mut name);
     if n == 0 {
         complain::of_file(&path[..k], phrase::NO_NAME);
         return;
     }
-    replaced(&path[..k], slice::between(&name, 0, n));
+    replaced(rt, &path[..k], slice::between(&name, 0, n));
 }
