@@ -1,10 +1,9 @@
 -- Demand 3 of a message: the payload's, behind a header that is found as it was written, whatever follows.
 -- Assumes nothing.
-use mathlib.Core.Path.{◌≡◌, refl, sym, ap, ◌∙◌}
+use mathlib.Core.Path.{◌≡◌, refl, ap, ◌∙◌}
 use mathlib.Core.Logic.{◌⊎◌, ⊎_elim}
-use Prim.Native.Nat.{ℕ, ◌+◌, ◌-◌, ◌≤◌}
+use Prim.Native.Nat.{ℕ, ◌-◌, ◌≤◌}
 use native.Mathlib.Omega.{arith}
-use mathlib.Core.Bool.{true}
 use mathlib.Core.List.{List, ◌++◌}
 use lib.ListN.{length}
 use Rattle.wire.specs.Header.{header_len, client_of, session_of, code_of, end_of}
@@ -13,13 +12,11 @@ use Rattle.wire.specs.declared.verdict.Verdict.{Verdict}
 use Rattle.wire.specs.declared.verdict.Verdict.TheVariants.{Accepted, Missing}
 use Rattle.payload.specs.declared.table.Table.{Table}
 use Rattle.payload.specs.declared.row.Row.{Row}
-use Rattle.payload.specs.Table.{table_fits}
 use Rattle.payload.specs.Reading.{payload_most, reading_of}
 use Rattle.payload.specs.Tree.{Members, bytes_of}
 use Rattle.payload.specs.Demand3.{Sent, Arrives}
 use Rattle.payload.proofs.Promises as payload
 use Rattle.message.specs.declared.header.Header.{Header}
-use Rattle.message.specs.MessageType.{is_one}
 use Rattle.message.specs.Reading.{payload_shown, head_at, headed, message_of}
 use Rattle.message.specs.Demand2.{expected_of}
 use Rattle.message.specs.Demand3.{MessageSent, message_of_members, MessageArrives, MessageDemand3Holds, AbsentArrives}

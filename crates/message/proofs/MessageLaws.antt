@@ -1,33 +1,19 @@
 -- The promises of a message's reading: each verdict exactly when, what is handed on, the parts, the rows, and what does not matter.
 -- Assumes nothing.
 use mathlib.Core.Path.{◌≡◌, refl, sym, ap, subst, ◌∙◌}
-use Prim.Native.Nat.{ℕ, suc, ◌+◌, ◌-◌, ◌≤◌, ◌<◌}
+use Prim.Native.Nat.{ℕ, ◌+◌, ◌-◌, ◌≤◌, ◌<◌}
 use native.Mathlib.Omega.{arith}
 use mathlib.Core.Bool.{Bool, true, false}
-use mathlib.Core.Logic.{◌⊎◌, inl, inr}
+use mathlib.Core.Logic.{inl, inr}
 use mathlib.Core.List.{List, ◌++◌, append_assoc}
 use lib.ListN.{length, take, drop, length-append, take-append-drop}
 use lib.Seq.{slice, length-slice, take-append-le, take-length, take-take}
 use lib.Dec.{leb, ltb, eqb}
-use borrow.Author.Tests.{lt-ltb, le-ltb, ltb-true, ltb-false, eq-eqb, ne_eqb, eqb-true, eqb-false, leb-true, leb-false, le-leb, lt-leb}
-use Rattle.wire.specs.Choose.{pick, and, or}
+use borrow.Author.Tests.{lt-ltb, le-ltb, ltb-true, ltb-false, ne_eqb, eqb-true, eqb-false, leb-true, le-leb, lt-leb}
+use Rattle.wire.specs.Choose.{pick, and}
 use Rattle.wire.specs.Verdict.{verdict_number}
-use Rattle.wire.specs.Header.{
-  header_len,
-  protocol_version,
-  field_at,
-  service_of,
-  method_of,
-  length_of,
-  client_of,
-  session_of,
-  version_of,
-  interface_of,
-  type_of,
-  code_of,
-  end_of,
-}
-use Rattle.wire.specs.Part.{part, no_part, part_of}
+use Rattle.wire.specs.Header.{header_len, protocol_version, field_at, service_of, method_of, length_of, version_of, interface_of, type_of, end_of}
+use Rattle.wire.specs.Part.{part, part_of}
 use Rattle.wire.proofs.ChooseLaws.{and_left, and_right, and_false}
 use Rattle.wire.proofs.PartLaws.{part_inside}
 use Rattle.wire.specs.declared.verdict.Verdict.{Verdict}
@@ -59,7 +45,6 @@ use Rattle.wire.specs.declared.verdict.Verdict.TheVariants.{
 use Rattle.payload.specs.declared.table.Table.{Table}
 use Rattle.payload.specs.declared.read.Reading.{Reading}
 use Rattle.payload.specs.Table.{in_range, table_fits}
-use Rattle.payload.specs.Row.{absent_row}
 use Rattle.payload.specs.Reading.{payload_most, untouched, cleared, reading_of}
 use Rattle.payload.specs.Bounds.{ByWalk}
 use Rattle.payload.specs.Outcome.{changes_none, Outcome, no_table, no_room, too_large, is_refused, is_accepted}

@@ -8,7 +8,6 @@ use mathlib.Core.List.{List}
 use lib.ListN.{length, take, drop}
 use lib.Dec.{eqb}
 use borrow.Author.Tests.{lt-ltb, le-ltb, eq-eqb, ne_eqb, eqb-true, eqb-false}
-use Rattle.wire.specs.Choose.{and}
 use Rattle.wire.specs.Verdict.{verdict_number}
 use Rattle.wire.specs.Header.{header_len, length_of, end_of}
 use Rattle.wire.specs.declared.verdict.Verdict.{Verdict}
@@ -16,7 +15,6 @@ use Rattle.wire.specs.declared.verdict.Verdict.TheVariants.{Table as NoTable, Ro
 use Rattle.wire.proofs.PartLaws.{cut_slice}
 use Rattle.payload.specs.declared.table.Table.{Table}
 use Rattle.payload.specs.declared.read.Reading.{Reading}
-use Rattle.payload.specs.Table.{table_fits}
 use Rattle.payload.specs.Cells.{table_in, Checked}
 use Rattle.payload.specs.Walking.{after_of}
 use Rattle.payload.specs.Reading.{cleared, checked_of, reading_of}
@@ -25,7 +23,7 @@ use Rattle.message.specs.declared.read.Expected.{Expected}
 use Rattle.message.specs.declared.read.Head.{Head}
 use Rattle.message.specs.declared.read.Opening.{Opening}
 use Rattle.message.specs.MessageType.{is_one}
-use Rattle.message.specs.Reading.{payload_of, head_at, unheaded, headed, length_fails, header_verdict, headed_of, message_of}
+use Rattle.message.specs.Reading.{payload_of, head_at, unheaded, length_fails, header_verdict, headed_of, message_of}
 use Rattle.message.specs.Opening.{shut_of, Opened}
 use Rattle.message.proofs.HeaderLaws.{length_fine}
 

@@ -5,7 +5,7 @@ use mathlib.Core.Path.{◌≡◌, refl, sym, ap, ◌∙◌}
 use Prim.Native.Nat.{ℕ, zero, suc, ◌+◌, ◌-◌, ◌≤◌, ◌<◌}
 use native.Mathlib.Omega.{arith}
 use mathlib.Core.Bool.{Bool, true, false}
-use mathlib.Core.List.{List, [], ◌∷◌, ◌++◌}
+use mathlib.Core.List.{List, ◌++◌}
 use lib.ListN.{length, take, drop, get_or, replicate, length-append, length-drop, length-replicate, get_or-append, get_or-eq_default, get_or-replicate}
 use lib.Seq.{take-suc, drop-cons, append_snoc, set_at, length-take-le, get_or-append-add, get_or-take, get_or-drop}
 use lib.Dec.{ltb}

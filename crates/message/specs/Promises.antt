@@ -53,7 +53,6 @@ use Rattle.payload.specs.Outcome.{changes_none}
 use Rattle.payload.specs.declared.write.Written.{Written}
 use Rattle.message.specs.declared.header.Header.{Header}
 use Rattle.message.specs.declared.read.Expected.{Expected}
-use Rattle.message.specs.declared.read.Head.{Head}
 use Rattle.message.specs.declared.read.MessageReading.{MessageReading}
 use Rattle.message.specs.declared.rows.Answered.{Answered}
 use Rattle.message.specs.MessageType.{request, request_no_return, notification, response, error, is_one}

@@ -31,8 +31,6 @@ use Rattle.wire.specs.declared.verdict.Verdict.TheVariants.{
   Method,
   MessageType,
 }
-use Rattle.wire.specs.declared.id.ClientId.{ClientId}
-use Rattle.wire.specs.declared.id.SessionId.{SessionId}
 use Rattle.wire.specs.declared.part.Part.{Part}
 use Rattle.payload.specs.declared.table.Table.{Table}
 use Rattle.payload.specs.declared.read.Reading.{Reading}

@@ -1,5 +1,5 @@
 -- What a writing of a message answers and leaves, for every input (document 01, Header and Verdicts).
-use Rattle.std.specs.Prelude.{◌≡◌, ℕ, ◌+◌, ◌-◌, ◌/◌, ◌%◌, ◌≤◌, ◌<◌, true, List, ◌++◌, length, drop, get_or}
+use Rattle.std.specs.Prelude.{◌≡◌, ℕ, ◌+◌, ◌/◌, ◌%◌, ◌≤◌, ◌<◌, true, List, ◌++◌, length, drop, get_or}
 use Rattle.wire.specs.Header.{header_len, protocol_version}
 use Rattle.wire.specs.declared.verdict.Verdict.TheVariants.{Accepted}
 use Rattle.payload.specs.declared.table.Table.{Table}

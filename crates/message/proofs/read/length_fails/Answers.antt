@@ -1,0 +1,9 @@
+-- `message::read::length_fails` meets its contract.
+use Rattle.message.proofs.HeaderLaws.{length_small, length_past}
+use Rattle.message.proofs.read.length_fails.Goals as goal
+
+pub returns-then-length-lt8 : goal.returns-then-length-lt8
+returns-then-length-lt8 c = length_small _ _ c.if-length-lt8.true
+
+pub returns : goal.returns
+returns c = length_past _ _ c.requires c.if-length-lt8.false
