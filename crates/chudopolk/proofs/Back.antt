@@ -1,7 +1,7 @@
 -- The numbers of a row that a reading shows stand for that row.
 -- Assumes nothing.
-use mathlib.Core.Path.{◌≡◌, refl, sym, ap, ◌∙◌}
-use Prim.Native.Nat.{ℕ, ◌+◌, ◌-◌, ◌*◌, ◌%◌, ◌^◌, ◌≤◌, ◌<◌}
+use mathlib.Core.Path.{◌≡◌, refl, ap}
+use Prim.Native.Nat.{ℕ, ◌+◌, ◌-◌, ◌%◌, ◌^◌, ◌≤◌, ◌<◌}
 use native.Mathlib.Omega.{arith}
 use mathlib.Core.Bool.{Bool, true, false}
 use lib.IntN.{ℤ, pos, negsuc}
@@ -9,13 +9,13 @@ use lib.Dec.{ltb, eqb}
 use lib.Ieee.{binary32, of_bits}
 use borrow.Author.Tests.{ltb-true, ltb-false, eqb-true, eqb-false}
 use Rattle.wire.specs.Choose.{pick}
-use Rattle.wire.specs.Number.{half, signed_by, signed_of, twos_of, Within, up, down}
-use Rattle.wire.specs.Kind.{size_of, string}
+use Rattle.wire.specs.Number.{half, signed_of, Within, up, down}
+use Rattle.wire.specs.Kind.{size_of}
 use Rattle.wire.proofs.Promises.{signed_read_back}
 use Rattle.payload.specs.declared.row.Row.{Row}
-use Rattle.payload.specs.declared.row.Value.TheVariants.{Unsigned, Signed, Float32, Float64, Bytes}
+use Rattle.payload.specs.declared.row.Value.TheVariants.{Unsigned, Signed, Float32, Bytes}
 use Rattle.payload.specs.Row.{plain, absent_row, members_row, number_row}
-use Rattle.chudopolk.specs.Rows.{float32_row, float64_row, row_of}
+use Rattle.chudopolk.specs.Rows.{float64_row, row_of}
 use Rattle.chudopolk.specs.Promises.{back, ShownBack}
 
 -- ---- signed numbers

@@ -1,0 +1,20 @@
+use mathlib.Core.Path.{◌≡◌, ap, ◌∙◌}
+use Prim.Native.Nat.{ℕ}
+use native.Mathlib.Omega.{arith}
+use Rattle.chudopolk.specs.Rows.{rows_up_to}
+use Rattle.chudopolk.proofs.ValueLaws.{rows_up_to_none, rows_up_to_more, lent_within, rows_of_is}
+use Rattle.chudopolk.proofs.rows.rows_of.Goals as goal
+
+pub loop-i-init : goal.loop-i-init
+loop-i-init c =
+    let within = lent_within _ _ c.lent-n.ensures in
+    (omega arith, within.0, within.1, rows_up_to_none _ _ c.plain-rows.ensures)
+
+pub loop-i-preserved : goal.loop-i-preserved
+loop-i-preserved c = (omega arith, omega arith, omega arith, rows_up_to_more _ _ _ _ c.loop-i.invariant.3 c.row_at-row.ensures)
+
+pub returns : goal.returns
+returns c =
+    let values = c.args.values.now in
+    let done : c.loop-i.i ≡ c.lent-n.result = omega arith in
+    rows_of_is _ _ _ c.lent-n.ensures (c.loop-i.invariant.3 ∙ ap (λ (m : ℕ). rows_up_to m values) done)
