@@ -2,7 +2,7 @@
 //
 //     desk show TABLE [FILE...]       desk show-hex TABLE [FILE...]       desk make TABLE VALUES
 //
-// A Rattle program has no exit status: whatever went wrong stands on standard error, and nothing else does.
+// The exit status is always 0: whatever went wrong stands on standard error, and nothing else does.
 
 #![tactic(auto)]
 

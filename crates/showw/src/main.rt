@@ -1,7 +1,7 @@
 // Shows one datagram: reads it from standard input under table W and prints the verdict and the five rows, as document 01 has them.
 //
-// A datagram has at most 65,535 bytes. A longer input, or one that can't be read, prints nothing but a message on standard error. A Rattle
-// program has no exit status: that nothing stands on standard output tells that no datagram was shown.
+// A datagram has at most 65,535 bytes. A longer input, or one that can't be read, prints nothing but a message on standard error. The exit
+// status is always 0: that nothing stands on standard output tells that no datagram was shown.
 
 #![tactic(auto)]
 

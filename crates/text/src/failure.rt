@@ -68,8 +68,3 @@ pub fn say(what: &[u8], error: &Error) {
     io::write_all(ERR, slice::between(all, 0, end_of(all)));
     io::write_all(ERR, b"\n");
 }
-
-// The same of a failure that is known by the system's number for it.
-pub fn say_code(what: &[u8], code: i32) {
-    say(what, &Error::from_raw_os_error(code));
-}

@@ -1,5 +1,6 @@
 // Files by their names, read to their ends; - is standard input.
 
+ghost use Rattle.std.specs.Prelude.{◌≡◌};
 ghost use Rattle.text.specs.Input.{Taken};
 
 use super::input::Input;
@@ -28,6 +29,14 @@ pub fn open<R: Files>(rt: &R, path: &[u8]) -> io::Result<R::File> {
     }
 }
 
+// Says why a file can't be read.
+fn told(path: &[u8], why: &io::Error) -> Input
+    ensures { result ≡ Input.Failed }
+{
+    failure::say(path, why);
+    Input::Failed
+}
+
 // Reads what is open into a buffer, closes it, and says why where it can't be read.
 pub fn read_open<S: Read + Drop>(source: S, path: &[u8], buf: &mut [u8]) -> Input
     ensures { Taken buf.new result }
@@ -35,10 +44,7 @@ pub fn read_open<S: Read + Drop>(source: S, path: &[u8], buf: &mut [u8]) -> Inpu
     let mut open = source;
     match input::read_or_fail(&mut open, buf) {
         Ok(got) => got,
-        Err(e) => {
-            failure::say(path, &e);
-            Input::Failed
-        }
+        Err(e) => told(path, &e),
     }
 }
 
@@ -52,8 +58,7 @@ fn read_standard<R: io::Input>(
     ensures { Taken buf.new result }
 {
     if standard.is_closed {
-        failure::say_code(path, failure::NOT_OPEN);
-        return Input::Failed;
+        return told(path, &io::Error::from_raw_os_error(failure::NOT_OPEN));
     }
     standard.is_closed = true;
     read_open(rt.reader(), path, buf)
@@ -73,9 +78,6 @@ pub fn read_file<R: Files + io::Input>(
     }
     match open(rt, path) {
         Ok(source) => read_open(source, path, buf),
-        Err(e) => {
-            failure::say(path, &e);
-            Input::Failed
-        }
+        Err(e) => told(path, &e),
     }
 }
