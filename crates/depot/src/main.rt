@@ -2,8 +2,8 @@
 //
 //     depot list ARCHIVE     depot verify ARCHIVE...     depot take ARCHIVE N     depot find ARCHIVE SESSION     depot add ARCHIVE FILE...
 //
-// take-line and find-line write the message behind its line. A Rattle program has no exit status: whatever went wrong stands on standard
-// error, and nothing else does.
+// take-line and find-line write the message behind its line. The exit status is always 0: whatever went wrong stands on standard error, and
+// nothing else does.
 
 #![tactic(auto)]
 
