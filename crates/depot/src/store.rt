@@ -275,7 +275,7 @@ fn renamed(rt: &impl Files, new: &[u8], path: &[u8]) -> bool {
     }
 }
 
-// Closes the new file. What it was to hold is on the disk already where all went well, so no error of closing matters.
+// Closes the new file. Nothing tells whether that fails; where all went well, the whole file was on the disk before.
 fn shut<F: Drop>(file: F) {
     drop(file);
 }
