@@ -1,8 +1,8 @@
 // Messages on standard error: the file, the verdict where there is one, and what is wrong. No contract can speak of output: it is run.
 
 use super::phrase;
-use super::phrase::ERR;
 use archive::verdict::Verdict;
+use text::say::ERR;
 use text::{list, quote, say};
 
 // A name, a colon and a blank.

@@ -2,8 +2,8 @@
 //
 //     depot list ARCHIVE     depot verify ARCHIVE...     depot take ARCHIVE N     depot find ARCHIVE SESSION     depot add ARCHIVE FILE...
 //
-// take-line and find-line write the message behind its line. A Rattle program has no exit status: whatever went wrong stands on standard
-// error, and nothing else does.
+// take-line and find-line write the message behind its line. The exit status is always 0: whatever went wrong stands on standard error, and
+// nothing else does.
 
 #![tactic(auto)]
 
@@ -16,11 +16,11 @@ mod show;
 mod store;
 
 use archive::find;
-use std::io::Input;
 use std::rt::{Env, Files};
 use text::file::Standard;
+use text::input::Input;
 use text::number::Number;
-use text::{argument, file, input, list, number, slice};
+use text::{argument, file, list, number, slice};
 use wire::id::SessionId;
 
 // What the program is asked for.
@@ -62,7 +62,7 @@ fn on_bytes(command: usize, path: &[u8], bytes: &[u8], n: u64) -> bool {
 }
 
 // The same of a file's bytes; of a longer one those that fill the buffer, which are over the most that an archive has.
-fn on_file<R: Files + Input>(
+fn on_file<R: Files + std::io::Input>(
     rt: &R,
     standard: &mut Standard,
     command: usize,
@@ -71,14 +71,14 @@ fn on_file<R: Files + Input>(
 ) -> bool {
     let mut buf = io::large_buffer();
     match file::read_file(rt, standard, path, &mut buf) {
-        input::Input::Bytes(k) => on_bytes(command, path, slice::between(&buf, 0, k), n),
-        input::Input::Long => on_bytes(command, path, &buf, n),
-        input::Input::Failed => true,
+        Input::Bytes(k) => on_bytes(command, path, slice::between(&buf, 0, k), n),
+        Input::Long => on_bytes(command, path, &buf, n),
+        Input::Failed => true,
     }
 }
 
 // The same of the file that an argument names; answers whether standard output was written.
-fn on_argument<R: Env + Files + Input>(
+fn on_argument<R: Files + Env + std::io::Input>(
     rt: &R,
     standard: &mut Standard,
     command: usize,
@@ -95,7 +95,7 @@ fn on_argument<R: Env + Files + Input>(
 }
 
 // Does what is asked of each archive that the arguments name.
-fn on_all<R: Env + Files + Input>(rt: &R, command: usize) {
+fn on_all<R: Files + Env + std::io::Input>(rt: &R, command: usize) {
     let mut standard = Standard::new();
     let count = argument::count(rt);
     let mut i: usize = 2;
@@ -108,7 +108,7 @@ fn on_all<R: Env + Files + Input>(rt: &R, command: usize) {
 }
 
 // Does what is asked of the message that the last argument says.
-fn on_message<R: Env + Files + Input>(rt: &R, command: usize, most: u64) {
+fn on_message<R: Files + Env + std::io::Input>(rt: &R, command: usize, most: u64) {
     let mut word = io::buffer();
     let k = argument::get(rt, 3, &mut word);
     match number::parse(&word[..k]) {

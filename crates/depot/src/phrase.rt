@@ -4,11 +4,6 @@ ghost use Rattle.std.specs.Prelude.{◌≤◌};
 
 use text::{list, say, slice};
 
-// Where standard output and standard error are written.
-pub const OUT: i32 = 1;
-
-pub const ERR: i32 = 2;
-
 pub const ACCEPTED: usize = 0;
 
 pub const MESSAGE: usize = 1;

@@ -4,10 +4,10 @@
 ghost use Rattle.std.specs.Prelude.{◌<◌};
 
 use super::layout::{FORM, Trailer};
-use super::phrase::ERR;
 use super::{complain, layout, phrase};
 use archive::verdict::Verdict;
 use archive::{form, open, records};
+use text::say::ERR;
 use wire::header;
 
 // Where the index ends, by what the trailer says.

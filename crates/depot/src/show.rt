@@ -1,12 +1,12 @@
 // Archives and messages on standard output: the lines of list and verify, and a message's bytes.
 
 use super::layout::FORM;
-use super::phrase::OUT;
 use super::{layout, phrase, reason};
 use archive::find::Found;
 use archive::open::Opening;
 use archive::{find, form, open};
 use text::say;
+use text::say::OUT;
 use wire::header;
 
 // The first line of an archive: its verdict, the sizes of the file and of its records, and the number of messages.

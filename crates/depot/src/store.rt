@@ -3,12 +3,14 @@
 
 use super::{complain, mode, phrase, reason};
 use archive::{add, open};
-use std::fs::{OpenFile, OpenOptions};
-use std::io::{Error, ErrorKind, Input, Read, Result, Write};
+use std::fs::{OpenFile, OpenOptions, Permissions};
+use std::io::{Error, ErrorKind, Read, Result, Write};
+use std::os::unix::fs::PermissionsExt;
 use std::rt::{Env, Files};
 use std::{fs, str};
 use text::file::Standard;
-use text::{argument, failure, file, input, slice};
+use text::input::Input;
+use text::{argument, failure, file, slice};
 use wire::part;
 
 // What was done so far: whether all went well, the size of the records or of the file in the buffer, and the mode of the archive's file,
@@ -77,9 +79,9 @@ fn read_archive<F: Read + OpenFile + Drop>(old: F, path: &[u8], buf: &mut [u8]) 
         }
     };
     match file::read_open(old, path, buf) {
-        input::Input::Bytes(n) => opened(path, slice::between(buf, 0, n), mode),
-        input::Input::Long => opened(path, buf, mode),
-        input::Input::Failed => failed(),
+        Input::Bytes(n) => opened(path, slice::between(buf, 0, n), mode),
+        Input::Long => opened(path, buf, mode),
+        Input::Failed => failed(),
     }
 }
 
@@ -112,7 +114,7 @@ fn with_message(path: &[u8], m: &[u8], file: &mut [u8], w: Work) -> Work {
 }
 
 // A file's bytes added to the records; of a longer file those that fill the buffer, which are over the most that a message has.
-fn with_file<R: Files + Input>(
+fn with_file<R: Files + std::io::Input>(
     rt: &R,
     standard: &mut Standard,
     path: &[u8],
@@ -121,14 +123,14 @@ fn with_file<R: Files + Input>(
 ) -> Work {
     let mut buf = io::large_buffer();
     match file::read_file(rt, standard, path, &mut buf) {
-        input::Input::Bytes(n) => with_message(path, slice::between(&buf, 0, n), file, w),
-        input::Input::Long => with_message(path, &buf, file, w),
-        input::Input::Failed => failed(),
+        Input::Bytes(n) => with_message(path, slice::between(&buf, 0, n), file, w),
+        Input::Long => with_message(path, &buf, file, w),
+        Input::Failed => failed(),
     }
 }
 
 // The file that an argument names added to the records.
-fn with_argument<R: Env + Files + Input>(
+fn with_argument<R: Files + Env + std::io::Input>(
     rt: &R,
     standard: &mut Standard,
     i: usize,
@@ -141,7 +143,7 @@ fn with_argument<R: Env + Files + Input>(
 }
 
 // The files that the arguments behind the archive name added to the records, up to the first that is refused.
-fn with_files<R: Env + Files + Input>(
+fn with_files<R: Files + Env + std::io::Input>(
     rt: &R,
     standard: &mut Standard,
     file: &mut [u8],
@@ -180,7 +182,7 @@ fn moded(file: &impl OpenFile, mode: u32) -> Result<()> {
     if mode == 0 {
         return Ok(());
     }
-    mode::set(file, mode)
+    file.set_permissions(Permissions::from_mode(mode % 4096))
 }
 
 // Writes the new file, gives it its mode and brings all of it to the disk.
@@ -205,7 +207,12 @@ fn written<F: Write + OpenFile>(file: &mut F, new: &[u8], bytes: &[u8], w: Work)
 }
 
 // Fills the new file: the archive that is there and the files. Answers whether all went well.
-fn filled<R: Env + Files + Input>(rt: &R, out: &mut R::File, path: &[u8], new: &[u8]) -> bool {
+fn filled<R: Files + Env + std::io::Input>(
+    rt: &R,
+    out: &mut R::File,
+    path: &[u8],
+    new: &[u8],
+) -> bool {
     let mut file = io::large_buffer();
     let old = old_archive(rt, path, &mut file);
     let full = with_files(rt, &mut Standard::new(), &mut file, old);
@@ -268,13 +275,13 @@ fn renamed(rt: &impl Files, new: &[u8], path: &[u8]) -> bool {
     }
 }
 
-// Closes the new file. What it was to hold is on the disk already where all went well, so no error of closing matters.
+// Closes the new file. Nothing tells whether that fails; where all went well, the whole file was on the disk before.
 fn shut<F: Drop>(file: F) {
     drop(file);
 }
 
 // Fills the new file and gives it the archive's name; whatever fails leaves no new file.
-fn put<R: Env + Files + Input>(rt: &R, file: R::File, path: &[u8], new: &[u8]) {
+fn put<R: Files + Env + std::io::Input>(rt: &R, file: R::File, path: &[u8], new: &[u8]) {
     let mut out = file;
     let is_filled = filled(rt, &mut out, path, new);
     shut(out);
@@ -285,7 +292,7 @@ fn put<R: Env + Files + Input>(rt: &R, file: R::File, path: &[u8], new: &[u8]) {
 }
 
 // Makes the new file, fills it and gives it the archive's name.
-fn replaced<R: Env + Files + Input>(rt: &R, path: &[u8], new: &[u8]) {
+fn replaced<R: Files + Env + std::io::Input>(rt: &R, path: &[u8], new: &[u8]) {
     match made(rt, new) {
         Ok(file) => put(rt, file, path, new),
         Err(why) => not_made(new, why),
@@ -293,7 +300,7 @@ fn replaced<R: Env + Files + Input>(rt: &R, path: &[u8], new: &[u8]) {
 }
 
 // Adds the files that the arguments behind the archive name.
-pub fn add_files<R: Env + Files + Input>(rt: &R) {
+pub fn add_files<R: Files + Env + std::io::Input>(rt: &R) {
     let mut path = io::buffer();
     let k = argument::get(rt, 2, &mut path);
     let mut name = io::buffer();
