@@ -57,6 +57,12 @@ look() { # EDIT
     functions "$1" | tr ' ' '\n' | grep -qxF "${found:-?}" || fault "$1" "refused for ${found:-a lemma or a definition}, of which it says nothing: $said"
 }
 
+# Whether a refusal lies in a function, or in its proof, that is more than a name which the edit took away.
+is_fact() { # CRATE FUNCTION
+    sed -nE '/has no field|is not in scope|has no `/d; s/^(note: )?(\.\/)?((src|proofs)\/[^ :]+):([0-9]+):[0-9]+: (error: |it is not proved).*/\3 \5/p' "$room/said" |
+        while read -r file line; do function_at "$1" "$file" "$line"; done | grep -qxF "$2"
+}
+
 # What a check of the crate with an edit says of each of its functions.
 try() { # CRATE EDIT
     python3 tests/shared/edit.py "$2" "$room/crates/$1"
@@ -67,10 +73,8 @@ try() { # CRATE EDIT
         '') fault "$2" "the prover says nothing of $function" ;;
         *': proved') fault "$2" "$function is still proved" ;;
         *': no proof: it calls '*) fault "$2" "$function is refused only for what it calls" ;;
+        *) is_fact "$1" "$function" || fault "$2" "$function is refused only for a name that is gone" ;;
         esac
-        proof=proofs/$(printf '%s' "${function#*::}" | sed 's|::|/|g')/
-        first=$(grep -E -m 1 "^(note: )?(\./)?$proof.*: error" "$room/said" || :)
-        case $first in *'has no field'* | *'is not in scope'* | *'has no `'*) fault "$2" "$function is refused for its shape: $first" ;; esac
     done
     for part in src specs proofs; do
         [ ! -d "crates/$1/$part" ] || cp -r "crates/$1/$part/." "$room/crates/$1/$part"
