@@ -18,13 +18,23 @@ fault() { # EDIT TEXT
 
 functions() { sed -n 's/^# refused: //p' "$1"; } # EDIT
 
-# The function in whose text a line lies, or whose proof a file is, as crate::module::Type::name; nothing of a lemma's or a definition's file.
-# Edits change no number of lines.
-function_at() { # CRATE FILE LINE
+# The places of refusals, a line each: file, line and what is refused there, as a goal's name.
+places() {
+    sed -nE 's/^(note: )?(\.\/)?((src|proofs|specs)\/[^ :]+):([0-9]+):[0-9]+: (error: `([^` ]+)|error: |it is not proved).*/\3 \5 \7/p'
+}
+
+# The function in whose text a place lies, or whose proof a file is, as crate::module::Type::name; nothing of a lemma's or a definition's file.
+# Edits change no number of lines. The proofs of a cycle lie in one folder, and each goal begins with its function's name.
+function_at() { # CRATE FILE LINE [GOAL]
     module=$(basename "$2" .rt)
     case $2 in
     src/*) ;;
-    proofs/*/Answers.antt | proofs/*/Invariants.antt | proofs/*/Proof.antt) echo "$1::$(dirname "${2#proofs/}" | sed 's|/|::|g')"; return ;;
+    proofs/*/Answers.antt | proofs/*/Invariants.antt | proofs/*/Proof.antt)
+        owner=$(dirname "${2#proofs/}")
+        case ${owner##*/} in +*) owner=${owner%+*}${4%%-*} ;; esac
+        echo "$1::$owner" | sed 's|/|::|g'
+        return
+        ;;
     *) return ;;
     esac
     case $module in lib | main) module='' ;; *) module=::$module ;; esac
@@ -47,7 +57,7 @@ look() { # EDIT
     '') fault "$1" "the log has nothing of it"; return ;;
     *) fault "$1" "$said"; return ;;
     esac
-    place=$(echo "$said" | sed -nE 's|^refused, as it must be: (note: )?(\./)?([^ :]+):([0-9]+):.*|\3 \4|p')
+    place=$(echo "${said#refused, as it must be: }" | places)
     [ -n "$place" ] || { fault "$1" "no place of a refusal: $said"; return; }
     # shellcheck disable=SC2086
     found=$(function_at "${name%%/*}" $place)
@@ -59,8 +69,8 @@ look() { # EDIT
 
 # Whether a refusal lies in a function, or in its proof, that is more than a name which the edit took away.
 is_fact() { # CRATE FUNCTION
-    sed -nE '/has no field|is not in scope|has no `/d; s/^(note: )?(\.\/)?((src|proofs)\/[^ :]+):([0-9]+):[0-9]+: (error: |it is not proved).*/\3 \5/p' "$room/said" |
-        while read -r file line; do function_at "$1" "$file" "$line"; done | grep -qxF "$2"
+    grep -vE 'has no field|is not in scope|has no `' "$room/said" | places |
+        while read -r file line goal; do function_at "$1" "$file" "$line" "$goal"; done | grep -qxF "$2"
 }
 
 # What a check of the crate with an edit says of each of its functions.
