@@ -18,13 +18,23 @@ fault() { # EDIT TEXT
 
 functions() { sed -n 's/^# refused: //p' "$1"; } # EDIT
 
-# The function in whose text a line lies, or whose proof a file is, as crate::module::Type::name; nothing of a lemma's or a definition's file.
-# Edits change no number of lines.
-function_at() { # CRATE FILE LINE
+# The places of refusals, a line each: file, line and what is refused there, as a goal's name.
+places() {
+    sed -nE 's/^(note: )?(\.\/)?((src|proofs|specs)\/[^ :]+):([0-9]+):[0-9]+: (error: `([^` ]+)|error: |it is not proved).*/\3 \5 \7/p'
+}
+
+# The function in whose text a place lies, or whose proof a file is, as crate::module::Type::name; nothing of a lemma's or a definition's file.
+# Edits change no number of lines. The proofs of a cycle lie in one folder, and each goal begins with its function's name.
+function_at() { # CRATE FILE LINE [GOAL]
     module=$(basename "$2" .rt)
     case $2 in
     src/*) ;;
-    proofs/*/Answers.antt | proofs/*/Invariants.antt | proofs/*/Proof.antt) echo "$1::$(dirname "${2#proofs/}" | sed 's|/|::|g')"; return ;;
+    proofs/*/Answers.antt | proofs/*/Invariants.antt | proofs/*/Proof.antt)
+        owner=$(dirname "${2#proofs/}")
+        case ${owner##*/} in +*) owner=${owner%+*}${4%%-*} ;; esac
+        echo "$1::$owner" | sed 's|/|::|g'
+        return
+        ;;
     *) return ;;
     esac
     case $module in lib | main) module='' ;; *) module=::$module ;; esac
@@ -47,7 +57,7 @@ look() { # EDIT
     '') fault "$1" "the log has nothing of it"; return ;;
     *) fault "$1" "$said"; return ;;
     esac
-    place=$(echo "$said" | sed -nE 's|^refused, as it must be: (note: )?(\./)?([^ :]+):([0-9]+):.*|\3 \4|p')
+    place=$(echo "${said#refused, as it must be: }" | places)
     [ -n "$place" ] || { fault "$1" "no place of a refusal: $said"; return; }
     # shellcheck disable=SC2086
     found=$(function_at "${name%%/*}" $place)
@@ -55,6 +65,12 @@ look() { # EDIT
     # A definition's edit may be refused by a lemma first.
     if [ -z "$found" ] && grep -q '^file: specs/' "$1"; then return; fi
     functions "$1" | tr ' ' '\n' | grep -qxF "${found:-?}" || fault "$1" "refused for ${found:-a lemma or a definition}, of which it says nothing: $said"
+}
+
+# Whether a refusal lies in a function, or in its proof, that is more than a name which the edit took away.
+is_fact() { # CRATE FUNCTION
+    grep -vE 'has no field|is not in scope|has no `' "$room/said" | places |
+        while read -r file line goal; do function_at "$1" "$file" "$line" "$goal"; done | grep -qxF "$2"
 }
 
 # What a check of the crate with an edit says of each of its functions.
@@ -67,10 +83,8 @@ try() { # CRATE EDIT
         '') fault "$2" "the prover says nothing of $function" ;;
         *': proved') fault "$2" "$function is still proved" ;;
         *': no proof: it calls '*) fault "$2" "$function is refused only for what it calls" ;;
+        *) is_fact "$1" "$function" || fault "$2" "$function is refused only for a name that is gone" ;;
         esac
-        proof=proofs/$(printf '%s' "${function#*::}" | sed 's|::|/|g')/
-        first=$(grep -E -m 1 "^(note: )?(\./)?$proof.*: error" "$room/said" || :)
-        case $first in *'has no field'* | *'is not in scope'* | *'has no `'*) fault "$2" "$function is refused for its shape: $first" ;; esac
     done
     for part in src specs proofs; do
         [ ! -d "crates/$1/$part" ] || cp -r "crates/$1/$part/." "$room/crates/$1/$part"

@@ -11,7 +11,7 @@ grep -o '`[^`]*`' "$page" | tr -d '`' | sort -u > "$room/quoted"
 
 # what the crates declare: definitions, statements, lemmas and fields of specs and proofs; functions, types and constants of src
 find crates/*/specs crates/*/proofs -name '*.antt' -exec sed -nE 's/^ *((abbrev|unfoldable) )?pub ((record|data) )?([A-Za-z][^ :({]*).*/\5/p' {} + > "$room/names"
-find crates/*/src -name '*.rt' -exec sed -nE 's/^ *(pub )?(extern "C" )?(fn|struct|enum|const) ([A-Za-z_0-9]+).*/\4/p' {} + >> "$room/names"
+find crates/*/src -name '*.rt' -exec sed -nE 's/^ *(pub(\([a-z]+\))? )?(extern "C" )?(fn|struct|enum|const) ([A-Za-z_0-9]+).*/\5/p' {} + >> "$room/names"
 sed -nE 's/^abbrev pub ([A-Z][A-Za-z0-9]*) : Type [01]$/\1/p' crates/*/specs/*.antt > "$room/statements"
 grep -rhE '^pub [a-z0-9_]+ : [A-Z][A-Za-z0-9]*$' crates/*/proofs | sed 's/.* //' > "$room/proved"
 ls crates/*/must-fail | sed -n 's/\.edit$//p' | sort -u > "$room/edits"
