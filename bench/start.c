@@ -86,33 +86,9 @@ int memcmp(const void *a0, const void *b0, size_t n)
 }
 int bcmp(const void *a, const void *b, size_t n) { return memcmp(a, b, n); }
 
-/* What rt's programs ask of the C library besides, before and behind the loop that is counted: memory, of which none is used twice, a place in
-   an input that has none, what the processor can do, and what goes with errors that don't come. */
-static _Alignas(16) uint8_t heap[1 << 24];
-static size_t used;
+/* What rt's programs ask of the C library besides, before their own start: to be told of a pipe that nobody reads, and what the processor has. */
 static const uint32_t features[8] = { -1, -1, -1, -1, -1, -1, -1, -1 };
 
-/* A block has its size before it. */
-void *malloc(size_t n)
-{
-    size_t whole = (n + 31) & ~(size_t)15;
-    if (n >= sizeof heap || sizeof heap - used < whole)
-        return 0;
-    uint8_t *p = heap + used + 16;
-    ((size_t *)p)[-1] = n;
-    used += whole;
-    return p;
-}
-void free(void *p) { (void)p; }
-void *realloc(void *p, size_t n)
-{
-    void *q = malloc(n);
-    size_t had = p ? ((size_t *)p)[-1] : 0;
-    return q && p ? memcpy(q, p, had < n ? had : n) : q;
-}
-long lseek(int fd, long offset, int whence) { (void)fd, (void)offset, (void)whence; return -1; }
-int *__errno_location(void) { static int pipe = 29; return &pipe; }
-int __xpg_strerror_r(int e, char *buf, size_t n) { (void)e, (void)buf, (void)n; return 22; }
 void *__sysv_signal(int number, void *handler) { (void)number, (void)handler; return 0; }
 const void *__x86_get_cpuid_feature_leaf(unsigned leaf) { (void)leaf; return features; }
 long __write(int fd, const void *buf, size_t n) { return write(fd, buf, n); }
