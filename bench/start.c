@@ -86,7 +86,7 @@ int memcmp(const void *a0, const void *b0, size_t n)
 }
 int bcmp(const void *a, const void *b, size_t n) { return memcmp(a, b, n); }
 
-/* What rt's programs ask of the C library besides, before their own start: to be told of a pipe that nobody reads, and what the processor has. */
+/* What rt's programs ask of the C library besides, before their own start: to ignore a signal, and what the processor has. */
 static const uint32_t features[8] = { -1, -1, -1, -1, -1, -1, -1, -1 };
 
 void *__sysv_signal(int number, void *handler) { (void)number, (void)handler; return 0; }

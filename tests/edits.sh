@@ -1,9 +1,9 @@
 #!/bin/sh
-# Looks at why each must-fail edit is refused. A line `# refused: FUNCTION ..` of an edit names the functions whose own proof has to fail, not
-# only that of a caller. Prints what is otherwise, and ends with status 1 if something is.
+# Looks at why each must-fail edit is refused. A line `# refused: FUNCTION ..` of an edit names the functions whose own proof has to fail,
+# not only that of a caller. Prints what is otherwise, and ends with status 1 if something is.
 #   tests/edits.sh                    each edit's texts stand once in their files, and it names its functions
-#   tests/edits.sh LOG                the same, and what `rt ci` or `rt must-fail` said of each edit, which LOG has: it is refused, for a fact and
-#                                     not for a name that is gone, and the first refusal, the only one that they tell, is one of its functions'
+#   tests/edits.sh LOG                the same, and what `rt ci` or `rt must-fail` said of each edit, which LOG has: it is refused, for a fact
+#                                     and not for a name that is gone, and the first refusal, all that they tell, is one of its functions'
 #   tests/edits.sh --each [CRATE..]   checks each edit of the crates anew, and looks at each of its functions: some minutes
 set -eu
 cd "$(dirname "$0")/.."
@@ -23,8 +23,8 @@ places() {
     sed -nE 's/^(note: )?(\.\/)?((src|proofs|specs)\/[^ :]+):([0-9]+):[0-9]+: (error: `([^` ]+)|error: |it is not proved).*/\3 \5 \7/p'
 }
 
-# The function in whose text a place lies, or whose proof a file is, as crate::module::Type::name; nothing of a lemma's or a definition's file.
-# Edits change no number of lines. The proofs of a cycle lie in one folder, and each goal begins with its function's name.
+# The function in whose text a place lies, or whose proof a file is, as crate::module::Type::name; nothing of the file of a lemma or of a
+# definition. Edits change no number of lines. The proofs of a cycle lie in one folder, and each goal begins with its function's name.
 function_at() { # CRATE FILE LINE [GOAL]
     module=$(basename "$2" .rt)
     case $2 in
@@ -113,7 +113,11 @@ case ${1-} in
     done
     [ $# -gt 0 ] || set -- $(ls -d crates/*/must-fail | sed 's|crates/||; s|/must-fail||')
     for crate; do
-        (cd "$room/crates/$crate" && rt check) >"$room/said" 2>&1 || { cat "$room/said"; fault "crates/$crate" "not proved as it is"; continue; }
+        if ! (cd "$room/crates/$crate" && rt check) >"$room/said" 2>&1; then
+            cat "$room/said"
+            fault "crates/$crate" "not proved as it is"
+            continue
+        fi
         for edit in crates/"$crate"/must-fail/*.edit; do try "$crate" "$edit"; done
     done
     ;;

@@ -1,8 +1,8 @@
 #!/usr/bin/env python3
 """Applies a must-fail edit to a crate: edit.py EDIT [TO].
 
-EDIT is crates/NAME/must-fail/FILE.edit. Each `old:` text has to stand once in its file of that crate; where one does not, that is printed and
-the status is 1. With TO, a copy of the crate, the changed files are written there.
+EDIT is crates/NAME/must-fail/FILE.edit. Each `old:` text has to stand once in its file of that crate; where one does not, that is printed
+and the status is 1. With TO, a copy of the crate, the changed files are written there.
 """
 import os
 import sys
