@@ -39,6 +39,9 @@ module _ (d : List ℕ) (p : Part) where
   unfolding part_of
   part_outside h = rw (lt-leb (p.at + p.len) (length d) h)
 
+  pub cut_part : p.at + p.len ≤ length d → take (p.at + p.len - p.at) (drop p.at d) ≡ part_of d p
+  cut_part h = cut_slice p.at (p.at + p.len) d (omega arith) ∙ sym (part_inside h)
+
   -- the bytes from its place on, and of those as many as it has, or none
   pub got_part : (from got : List ℕ) → from ≡ drop p.at d → got ≡ pick (leb p.len (length from)) (take p.len from) [] → got ≡ part_of d p
   got_part from got f g = g ∙ ap (λ (l : List ℕ). pick (leb p.len (length l)) (take p.len l) []) f ∙ go (leb (p.at + p.len) (length d)) refl

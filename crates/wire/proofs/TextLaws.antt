@@ -34,7 +34,7 @@ plain_is x ne = rw (ne_eqb x 0 ne) (go (ltb x 0x80) (ltb x 0xC2) (ltb x 0xE0) (l
     go false false false false false = refl
 
 -- too few bytes
-pub text_short : (k : ℕ) (xs : List ℕ) → length xs < k → text_from k xs ≡ false
+text_short : (k : ℕ) (xs : List ℕ) → length xs < k → text_from k xs ≡ false
 unfolding text_from
 text_short k [] h = ne_eqb k 0 (λ e. omega arith)
 text_short zero (x ∷ xs) h = absurd (omega arith)
