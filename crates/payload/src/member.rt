@@ -9,7 +9,6 @@ ghost use Rattle.payload.specs.Reading.{body_of};
 ghost use Rattle.payload.specs.Walking.{body_in, Inside, spot_of, UnknownRead, ContentRead, KnownRead, Steady, MemberAt};
 
 use super::table;
-use super::table::Found;
 use wire::verdict::Verdict;
 use wire::{kind, number, tag, text};
 
@@ -186,7 +185,7 @@ fn known_at(p: &[u8], cell: u64, i: usize, width: usize, wire: u64, at: usize, e
 }
 
 // The row of a Data ID among the direct members of a level.
-fn find_level(cells: &[u64; 64], f: Frame, ident: u64) -> Found
+fn find_level(cells: &[u64; 64], f: Frame, ident: u64) -> Option<usize>
     requires { Stops cells.now f.first f.stop f.count f.level × (f.count ≤ 64) × (f.level ≤ 5) × (ident < 4096) }
     ensures { (result ≡ search_at f.count cells.now f.level ident f.first) × Within cells.now f.first f.count f.level result }
 {
@@ -205,8 +204,8 @@ pub fn member_at(p: &[u8], cells: &[u64; 64], marks: &[usize; 64], at: usize, f:
     let tag = number::read_number(p, at, 2);
     let wire = tag::wire_of(tag);
     match find_level(cells, f, tag::ident_of(tag)) {
-        Found::Nothing => unknown_at(p, f.width, wire, at + 2, end),
-        Found::At(i) => {
+        None => unknown_at(p, f.width, wire, at + 2, end),
+        Some(i) => {
             let cell = cells[i];
             if !kind::wire_fits(table::kind_in(cell), wire) {
                 return Member::Bad(Verdict::Wire, at);

@@ -5,7 +5,8 @@ use Prim.Native.Nat.{ℕ, suc, ◌+◌, ◌-◌, ◌%◌, ◌^◌, ◌≤◌, �
 use native.Mathlib.Nat.{mod-eq_of_lt}
 use native.Mathlib.Omega.{arith}
 use mathlib.Core.Bool.{true, false}
-use mathlib.Core.Option.{Option, none, some}
+use mathlib.Core.Option.{Option as Place, none, some}
+use Rattle.std.specs.Prelude.{Option, Some, None}
 use mathlib.Core.List.{List, [], ◌∷◌}
 use lib.ListN.{length, get_or, drop}
 use lib.Seq.{slice, slice-cons, slice_empty, length-slice}
@@ -28,8 +29,6 @@ use Rattle.payload.specs.declared.member.Content.TheVariants.{In, Cut}
 use Rattle.payload.specs.declared.member.Member.{Member}
 use Rattle.payload.specs.declared.member.Member.TheVariants.{Bad, Unknown, Leaf, Struct}
 use Rattle.payload.specs.Table.{find, row_at}
-use Rattle.payload.specs.declared.table.Found.{Found}
-use Rattle.payload.specs.declared.table.Found.TheVariants.{At, Nothing}
 use Rattle.payload.specs.Cells.{row_in, kind_in, table_in, found_at, Within}
 use Rattle.payload.proofs.Rules.CellLaws.{row_at_lem, table_length}
 use Rattle.payload.specs.Row.{is_absent, shown_of, absent_row}
@@ -158,7 +157,7 @@ module _ (p cells marks : List ℕ) (at : ℕ) (f : Frame) where
 
   module _ (steady : Steady p cells f) (h : 2 ≤ f.end - at) (tag : ℕ) (t : tag ≡ number_of big (slice at (at + 2) p))
       (wire : ℕ) (ew : wire ≡ wire_of tag) (ident : ℕ) (ei : ident ≡ ident_of tag)
-      (found : Found) (e : found ≡ found_at f.first (find f.level ident (drop f.first types)))
+      (found : Option ℕ) (e : found ≡ found_at f.first (find f.level ident (drop f.first types)))
       (within : Within cells f.first f.count f.level found) where
     tag_bytes_lem : (end : ℕ) → at + 2 ≤ end → end ≤ length p → slice at end p ≡ get_or p at 0 ∷ get_or p (suc at) 0 ∷ slice (at + 2) end p
     tag_bytes_lem end a b =
@@ -179,14 +178,14 @@ module _ (p cells marks : List ℕ) (at : ℕ) (f : Frame) where
     unfolding step_of
     step_met words = rw (tag_bytes_lem f.end (omega arith) steady.bounded, tag_is, ew, ei)
 
-    abbrev looked : Option ℕ
+    abbrev looked : Place ℕ
     looked = find f.level ident (drop f.first types)
 
-    found_none : (o : Option ℕ) → Nothing ≡ found_at f.first o → o ≡ none
+    found_none : (o : Place ℕ) → None ≡ found_at f.first o → o ≡ none
     found_none none q = refl
     found_none (some k) q = let z : ◌≡◌ {A = ℕ} 0 1 = cc in absurd (omega arith)
 
-    pub member_unknown : found ≡ Nothing → (r : Member) → UnknownRead p (at + 2) f.end body r → MemberAt p cells marks at f r
+    pub member_unknown : found ≡ None → (r : Member) → UnknownRead p (at + 2) f.end body r → MemberAt p cells marks at f r
     unfolding met
     member_unknown d r u =
         let z = found_none looked (sym d ∙ e) in
@@ -198,8 +197,8 @@ module _ (p cells marks : List ℕ) (at : ℕ) (f : Frame) where
         place (Leaf s) w = absurd w
         place (Struct s) w = absurd w
 
-    module _ (i : ℕ) (d : found ≡ At i) where
-      in_level : Within cells f.first f.count f.level (At i)
+    module _ (i : ℕ) (d : found ≡ Some i) where
+      in_level : Within cells f.first f.count f.level (Some i)
       in_level = subst (Within cells f.first f.count f.level) d within
 
       type_is : row_at types i ≡ row_in (get_or cells i 0)
@@ -222,7 +221,7 @@ module _ (p cells marks : List ℕ) (at : ℕ) (f : Frame) where
               ap is_absent (kept_at words marks types i (omega (arith, in_level.1, table_length f.count cells)))
               ∙ kept_absent _ _ _
 
-          go : (o : Option ℕ) → At i ≡ found_at f.first o
+          go : (o : Place ℕ) → Some i ≡ found_at f.first o
               → met types f.first wire at body (kept types words marks) o
               ≡ pick (wire_fits (row_in (get_or cells i 0)).kind wire)
               (pick (eqb (get_or marks i 0) 0) (known i (row_in (get_or cells i 0)) body) (refuse Twice at))
