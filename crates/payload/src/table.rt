@@ -66,6 +66,23 @@ impl CheckedTable {
     {
         self.cells[i]
     }
+
+    // Where the rows of a level end that begin at `first`: at the first row above the level, or with the table.
+    pub fn level_end(&self, first: usize, level: u64) -> usize
+        requires { first ≤ self.now.count }
+        ensures { Stops self.now.cells first result self.now.count level }
+    {
+        level_end(&self.cells, first, self.count, level)
+    }
+
+    // The row of a Data ID among the direct members of the level whose rows are those from `first` to `stop`.
+    pub fn find(&self, first: usize, stop: usize, level: u64, ident: u64) -> Option<usize>
+        requires { Stops self.now.cells first stop self.now.count level × (level < 16) × (ident < 4096) }
+        ensures is { result ≡ search_at self.now.count self.now.cells level ident first }
+        ensures within { Within self.now.cells first self.now.count level result }
+    {
+        find_in(&self.cells, first, stop, level, ident)
+    }
 }
 
 // The level of a cell's row.
