@@ -85,7 +85,7 @@ fn string_shown(bytes: &[u8], cell: u64, content: Span) -> Result<Row, Refusal>
     ensures { Shows bytes.now (row_in cell) content result }
 {
     let Span { from, end } = content;
-    if !text::string_fits(bytes, from, end) {
+    if !text::string_fits(&bytes[from..end]) {
         return Err(Refusal {
             verdict: Verdict::Text,
             place: from,
