@@ -96,14 +96,14 @@ module _ (d : List ℕ) (e : Expected) (t : Table) (room : ℕ) where
 
 -- ---- the header's verdict, then the payload's
 
-module _ (d : List ℕ) (e : Expected) (c : CheckedTable) (end : ℕ) (reading : Reading) (head : Head) (eh : head ≡ head_at d end reading.verdict) where
-  pub headed_read : header_len ≤ end → Accepted ≡ header_verdict d e
+module _ (d : List ℕ) (e : Expected) (c : CheckedTable) (end : ℕ) (reading : Reading) (head : Head) where
+  pub headed_read : head ≡ head_at d end reading.verdict → header_len ≤ end → Accepted ≡ header_verdict d e
       → reading ≡ checked_of (take (end - header_len) (drop header_len d)) (table_in c.count c.cells) c.count c.width
       → record { head = head; reading = reading } ≡ headed_in d e c end
-  headed_read large v er =
+  headed_read eh large v er =
       let z : reading ≡ checked_of (slice header_len end d) (table_in c.count c.cells) c.count c.width = er ∙ rw (cut_slice header_len end d large) in
       rw (eh, z, ← v)
 
-  pub headed_refused : (why : Verdict) → why ≡ header_verdict d e → (why ≡ Accepted → ⊥) → reading ≡ cleared c.count why 0
+  pub headed_refused : (why : Verdict) → head ≡ head_at d end why → why ≡ header_verdict d e → (why ≡ Accepted → ⊥) → reading ≡ cleared c.count why 0
       → record { head = head; reading = reading } ≡ headed_in d e c end
-  headed_refused why v n er = rw (eh, er, ← v, ne_eqb (verdict_number why) 0 (λ z. n (verdict_one why Accepted z)))
+  headed_refused why eh v n er = rw (eh, er, ← v, ne_eqb (verdict_number why) 0 (λ z. n (verdict_one why Accepted z)))

@@ -148,10 +148,14 @@ fn headed(d: &[u8], e: Expected, table: &CheckedTable, end: usize) -> MessageRea
     requires { (16 ≤ end) × (end ≤ length d.now) }
     ensures { result ≡ headed_in d.now e table.now end }
 {
-    let reading = match header_verdict(d, e) {
-        Verdict::Accepted => read::read_checked(&d[header::LEN..end], table),
-        why => Reading::refused(why, 0, table.count),
-    };
+    let why = header_verdict(d, e);
+    if why != Verdict::Accepted {
+        return MessageReading {
+            head: head_at(d, end, why),
+            reading: Reading::refused(why, 0, table.count),
+        };
+    }
+    let reading = read::read_checked(&d[header::LEN..end], table);
     MessageReading {
         head: head_at(d, end, reading.verdict),
         reading,

@@ -208,15 +208,15 @@ pub fn read_checked(p: &[u8], table: &CheckedTable) -> Reading
             end: p.len(),
         },
     };
-    match walker.read_level(level) {
-        Err(refusal) => Reading::refused(refusal.verdict, refusal.place, filled),
-        Ok(()) => Reading {
-            verdict: Verdict::Accepted,
-            place: 0,
-            skipped: walker.skipped,
-            filled,
-            rows: walker.rows,
-        },
+    if let Err(refusal) = walker.read_level(level) {
+        return Reading::refused(refusal.verdict, refusal.place, filled);
+    }
+    Reading {
+        verdict: Verdict::Accepted,
+        place: 0,
+        skipped: walker.skipped,
+        filled,
+        rows: walker.rows,
     }
 }
 
@@ -224,11 +224,12 @@ pub fn read_checked(p: &[u8], table: &CheckedTable) -> Reading
 pub fn read_payload(p: &[u8], t: Table, room: usize) -> Reading
     ensures { result ≡ reading_of p.now t room }
 {
-    let Some(table) = CheckedTable::of(&t) else {
+    let checked = CheckedTable::of(&t);
+    let Some(table) = &checked else {
         return Reading::refused(Verdict::Table, 0, 0);
     };
     if room < table.count {
         return Reading::refused(Verdict::Room, 0, 0);
     }
-    read_checked(p, &table)
+    read_checked(p, table)
 }

@@ -48,7 +48,7 @@ impl CheckedTable {
             (c.count ≡ t.now.count) × (c.width ≡ t.now.width) × Checked t.now c.cells true) }
     {
         let mut cells = [0u64; 64];
-        if !checked(*t, &mut cells) {
+        if !checked(t, &mut cells) {
             return None;
         }
         Some(CheckedTable {
@@ -379,9 +379,9 @@ fn rises(before: bool, last: u64, ident: u64) -> bool
 
 // Whether a table keeps its rules, with its rows' cells. Data IDs that rise in each struct differ; only others are compared one by one.
 // For the library's own readers and writers; users call `table_fits`.
-pub fn checked(t: Table, cells: &mut [u64; 64]) -> bool
+pub fn checked(t: &Table, cells: &mut [u64; 64]) -> bool
     requires { length cells.old ≡ 64 }
-    ensures { Checked t cells.new result }
+    ensures { Checked t.now cells.new result }
 {
     let n = t.count;
     if n == 0 {
@@ -422,5 +422,5 @@ pub fn table_fits(t: Table) -> bool
     ensures { result ≡ table_fits t }
 {
     let mut cells = [0u64; 64];
-    checked(t, &mut cells)
+    checked(&t, &mut cells)
 }

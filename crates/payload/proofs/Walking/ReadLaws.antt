@@ -70,10 +70,16 @@ module _ (w : Walker) (rows_are : w.rows ≡ replicate 64 absent_row) (none_skip
         let rest : drop count v.rows ≡ replicate (64 - count) absent_row = l.onto.beyond ∙ rw (rows_are, drop_absent count 64) in
         rw (l.onto.table_is, long, ← rest, take-append-drop count v.rows)
 
-    pub read_accepted : (u : Unit {0}) → r ≡ Ok u
+    pub read_accepted : ((e : Refusal) → r ≡ Err e → ⊥)
         → record { verdict = Accepted; place = 0; skipped = v.skipped; filled = count; rows = v.rows } ≡ checked_of w.bytes.now (types_in w) count w.table.now.width
     unfolding answer_of
-    read_accepted u z = rw (← full_is) (rw z at checked_is)
+    read_accepted n = rw (← full_is) (go r refl)
+      where
+        go : (x : Result (Unit {0}) Refusal) → r ≡ x
+            → record { verdict = Accepted; place = 0; skipped = v.skipped; filled = count; rows = full (met_in v) }
+            ≡ checked_of w.bytes.now (types_in w) count w.table.now.width
+        go (Ok u) z = rw z at checked_is
+        go (Err e) z = absurd (n e z)
 
 -- ---- the verdicts before the walk
 

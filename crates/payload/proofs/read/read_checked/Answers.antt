@@ -9,5 +9,5 @@ returns-then-p-gt-PAYLOAD_MOST c = c.refused.ensures ∙ read_large _ _ _ _ c.if
 pub returns-in-Err : goal.returns-in-Err
 returns-in-Err c = c.refused-in-Err.ensures ∙ read_refused _ refl refl _ _ c.read_level.ensures c.if-p-gt-PAYLOAD_MOST.false _ c.in-Err.is
 
-pub returns-in-Ok : goal.returns-in-Ok
-returns-in-Ok c = read_accepted _ refl refl _ _ c.read_level.ensures c.if-p-gt-PAYLOAD_MOST.false _ c.in-Ok.is
+pub returns : goal.returns
+returns c = read_accepted _ refl refl _ _ c.read_level.ensures c.if-p-gt-PAYLOAD_MOST.false c.in_default.not-Err
