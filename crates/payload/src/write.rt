@@ -123,7 +123,7 @@ pub fn write_payload(
     ensures output { out.new ≡ output_of rows room t content.now out.old }
 {
     let mut cells = [0u64; 64];
-    if !table::checked(t, &mut cells) {
+    if !table::checked(&t, &mut cells) {
         return refuse(Verdict::Table);
     }
     if room < t.count {

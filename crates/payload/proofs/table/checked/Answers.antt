@@ -1,4 +1,4 @@
-use mathlib.Core.Path.{◌≡◌, refl, sym, ◌∙◌}
+use mathlib.Core.Path.{◌≡◌, refl, sym, ap, ◌∙◌}
 use Prim.Native.Nat.{ℕ}
 use native.Mathlib.Omega.{arith}
 use borrow.Author.Rules.{rules}
@@ -7,7 +7,8 @@ use mathlib.Core.List.{List, map}
 use lib.ListN.{length, length-map}
 use Rattle.payload.proofs.Joined.{clash}
 use Rattle.payload.proofs.Rules.RowLaws.{fits_rules, fine_row}
-use Rattle.payload.proofs.Rules.CheckLaws.{refuse, passed_none, passed_stop, passed_next, all_fine, answer_differ, answer_rising}
+use Rattle.payload.proofs.Rules.CheckLaws.{refuse, passed_none, passed_stop, passed_next, all_fine, answer_differ, answer_rising, first_fine, first_table}
+use Rattle.payload.specs.Table.{idents_differ}
 use Rattle.payload.proofs.table.checked.Goals as goal
 
 -- a list has the length of what it is mapped to
@@ -36,47 +37,42 @@ pub packed-requires : goal.packed-requires
 packed-requires c = fine_row _ (fits_rules _ _ (sym c.row_fits.ensures ∙ not-false _ c.if-not-row_fits.false-raw)).0
 
 pub offset_bounds-lasts-l : goal.offset_bounds-lasts-l
-offset_bounds-lasts-l c = omega (arith, (fits_rules _ _ (sym c.row_fits.ensures ∙ not-false _ c.if-not-row_fits.false-raw)).0.level_most_lem, c.index-l.ensures, c.loop-i.invariant.marks)
+offset_bounds-lasts-l c = omega (arith, (fits_rules _ _ (sym c.row_fits.ensures ∙ not-false _ c.if-not-row_fits.false-raw)).0.level_most_lem, c.from-l.ensures, c.loop-i.invariant.marks)
 
 pub bounds-lasts-l : goal.bounds-lasts-l
-bounds-lasts-l c = omega (arith, (fits_rules _ _ (sym c.row_fits.ensures ∙ not-false _ c.if-not-row_fits.false-raw)).0.level_most_lem, c.index-l.ensures, c.loop-i.invariant.marks)
+bounds-lasts-l c = omega (arith, (fits_rules _ _ (sym c.row_fits.ensures ∙ not-false _ c.if-not-row_fits.false-raw)).0.level_most_lem, c.from-l.ensures, c.loop-i.invariant.marks)
 
 pub offset_bounds-lasts-l-in-loop-i : goal.offset_bounds-lasts-l-in-loop-i
-offset_bounds-lasts-l-in-loop-i c = omega (arith, (fits_rules _ _ (sym c.row_fits.ensures ∙ not-false _ c.if-not-row_fits.false-raw)).0.level_most_lem, c.index-l.ensures, c.loop-i.invariant.marks)
+offset_bounds-lasts-l-in-loop-i c = omega (arith, (fits_rules _ _ (sym c.row_fits.ensures ∙ not-false _ c.if-not-row_fits.false-raw)).0.level_most_lem, c.from-l.ensures, c.loop-i.invariant.marks)
 
 pub bounds-lasts-l-in-loop-i : goal.bounds-lasts-l-in-loop-i
-bounds-lasts-l-in-loop-i c = omega (arith, (fits_rules _ _ (sym c.row_fits.ensures ∙ not-false _ c.if-not-row_fits.false-raw)).0.level_most_lem, c.index-l.ensures, c.loop-i.invariant.marks)
+bounds-lasts-l-in-loop-i c = omega (arith, (fits_rules _ _ (sym c.row_fits.ensures ∙ not-false _ c.if-not-row_fits.false-raw)).0.level_most_lem, c.from-l.ensures, c.loop-i.invariant.marks)
 
 pub overflow_add-lasts-in-loop-i : goal.overflow_add-lasts-in-loop-i
-overflow_add-lasts-in-loop-i c = omega (arith, (fits_rules _ _ (sym c.row_fits.ensures ∙ not-false _ c.if-not-row_fits.false-raw)).0.level_most_lem, c.index-l.ensures, c.loop-i.invariant.marks)
+overflow_add-lasts-in-loop-i c = omega (arith, (fits_rules _ _ (sym c.row_fits.ensures ∙ not-false _ c.if-not-row_fits.false-raw)).0.level_most_lem, c.from-l.ensures, c.loop-i.invariant.marks)
 
 pub offset_bounds-lasts-l-in-loop-i-2 : goal.offset_bounds-lasts-l-in-loop-i-2
-offset_bounds-lasts-l-in-loop-i-2 c = omega (arith, (fits_rules _ _ (sym c.row_fits.ensures ∙ not-false _ c.if-not-row_fits.false-raw)).0.level_most_lem, c.index-l.ensures, c.loop-i.invariant.marks)
+offset_bounds-lasts-l-in-loop-i-2 c = omega (arith, (fits_rules _ _ (sym c.row_fits.ensures ∙ not-false _ c.if-not-row_fits.false-raw)).0.level_most_lem, c.from-l.ensures, c.loop-i.invariant.marks)
 
 pub bounds-lasts-l-in-loop-i-2 : goal.bounds-lasts-l-in-loop-i-2
-bounds-lasts-l-in-loop-i-2 c = omega (arith, (fits_rules _ _ (sym c.row_fits.ensures ∙ not-false _ c.if-not-row_fits.false-raw)).0.level_most_lem, c.index-l.ensures, c.loop-i.invariant.marks)
+bounds-lasts-l-in-loop-i-2 c = omega (arith, (fits_rules _ _ (sym c.row_fits.ensures ∙ not-false _ c.if-not-row_fits.false-raw)).0.level_most_lem, c.from-l.ensures, c.loop-i.invariant.marks)
 
 pub level_most-most-requires : goal.level_most-most-requires
 level_most-most-requires c = (fits_rules _ _ (sym c.row_fits.ensures ∙ not-false _ c.if-not-row_fits.false-raw)).0.level_most_lem
 
-pub overflow_add-i : goal.overflow_add-i
-overflow_add-i c = omega arith
-
-pub loop-i-smaller : goal.loop-i-smaller
-loop-i-smaller c = omega arith
-
 pub loop-i-preserved : goal.loop-i-preserved
 loop-i-preserved c =
     passed_next _ (search (rules, of_map)) _ _ _ _ _ _ c.loop-i.invariant c.if-n-gt64.false c.loop-i-test.true (sym c.row_fits.ensures ∙ not-false _ c.if-not-row_fits.false-raw) _ c.level_most-most.ensures _ c.packed.ensures
-    _ _ c.index-l.ensures c.wide16-id.ensures _ c.rises-rising.ensures
+    _ _ c.from-l.ensures c.from-id.ensures _ c.rises-rising.ensures
 
 pub returns-then-rising : goal.returns-then-rising
 returns-then-rising c =
     answer_rising _ (search (rules, of_map)) _ _ _ _ _ _ c.loop-i.invariant c.if-n-gt64.false c.loop-i-test.false (omega (arith, c.if-n-eq0.false)) (sym c.width_fits.ensures ∙ not-false _ c.if-not-width_fits.false-raw) refl c.if-rising.true
 
 pub idents_differ-requires : goal.idents_differ-requires
-idents_differ-requires c = all_fine _ (search (rules, of_map)) _ _ _ _ _ _ c.loop-i.invariant c.if-n-gt64.false c.loop-i-test.false
+idents_differ-requires c = first_fine _ _ c.loop-i.invariant.long (all_fine _ (search (rules, of_map)) _ _ _ _ _ _ c.loop-i.invariant c.if-n-gt64.false c.loop-i-test.false)
 
 pub returns : goal.returns
 returns c =
-    answer_differ _ (search (rules, of_map)) _ _ _ _ _ _ c.loop-i.invariant c.if-n-gt64.false c.loop-i-test.false (omega (arith, c.if-n-eq0.false)) (sym c.width_fits.ensures ∙ not-false _ c.if-not-width_fits.false-raw) _ c.idents_differ.ensures
+    answer_differ _ (search (rules, of_map)) _ _ _ _ _ _ c.loop-i.invariant c.if-n-gt64.false c.loop-i-test.false (omega (arith, c.if-n-eq0.false)) (sym c.width_fits.ensures ∙ not-false _ c.if-not-width_fits.false-raw) _
+    (c.idents_differ.ensures ∙ ap idents_differ (first_table _ _ c.loop-i.invariant.long c.if-n-gt64.false))
