@@ -19,44 +19,28 @@ pub enum Judged {
 }
 
 // Whether a row is absent.
+#[tactic(auto, unfolding(crate::specs::Row::is_absent))]
 fn is_absent(r: Row) -> bool
     ensures { result ≡ is_absent r }
 {
-    let v = r.value;
-    match v {
-        Value::Absent => true,
-        Value::Unsigned(_) => false,
-        Value::Signed(_) => false,
-        Value::Float32(_) => false,
-        Value::Float64(_) => false,
-        Value::Bytes { place: _, len: _ } => false,
-        Value::Members => false,
-    }
+    matches!(r.value, Value::Absent)
 }
 
 // Whether a value is a struct's.
 fn is_members(v: Value) -> bool
     ensures { result ≡ is_members v }
 {
-    match v {
-        Value::Absent => false,
-        Value::Unsigned(_) => false,
-        Value::Signed(_) => false,
-        Value::Float32(_) => false,
-        Value::Float64(_) => false,
-        Value::Bytes { place: _, len: _ } => false,
-        Value::Members => true,
-    }
+    matches!(v, Value::Members)
 }
 
-// Whether a run of bytes goes past a content buffer of `room` bytes. No sum is made that could wrap.
+// Whether a run of bytes goes past a content buffer of `room` bytes, as it does where its end is no number that fits.
 fn run_outside(room: usize, place: usize, len: usize) -> bool
     ensures { result ≡ ltb room (place + len) }
 {
-    if room < len {
-        return true;
+    match place.checked_add(len) {
+        Some(end) => room < end,
+        None => true,
     }
-    room - len < place
 }
 
 // Whether a value is a run of bytes past the content buffer.
@@ -64,13 +48,8 @@ fn is_outside(room: usize, v: Value) -> bool
     ensures { result ≡ outside room v }
 {
     match v {
-        Value::Absent => false,
-        Value::Unsigned(_) => false,
-        Value::Signed(_) => false,
-        Value::Float32(_) => false,
-        Value::Float64(_) => false,
         Value::Bytes { place, len } => run_outside(room, place, len),
-        Value::Members => false,
+        _ => false,
     }
 }
 
@@ -87,23 +66,18 @@ fn unsigned_fits(kind: usize, n: u64) -> bool
     requires { (0 < kind) × (kind < 15) }
     ensures { result ≡ unsigned_fits kind n }
 {
-    if kind == kind::BOOLEAN {
-        return n < 2;
+    match kind {
+        kind::BOOLEAN => n < 2,
+        2..=5 => below(n, kind::size_of(kind), 256),
+        _ => false,
     }
-    if 5 < kind {
-        return false;
-    }
-    below(n, kind::size_of(kind), 256)
 }
 
 // Of a two's complement in eight bytes, n for n and for -1 - n.
 fn flipped(num: u64) -> u64
     ensures { result ≡ flip_of num }
 {
-    if num < 9223372036854775808 {
-        return num;
-    }
-    18446744073709551615 - num
+    if num < 1 << 63 { num } else { u64::MAX - num }
 }
 
 // Whether a signed number is of a kind and its range.
@@ -111,24 +85,19 @@ fn signed_fits(kind: usize, z: i64) -> bool
     requires { kind < 15 }
     ensures { result ≡ signed_fits kind z }
 {
-    if kind < 6 {
-        return false;
+    match kind {
+        6..=9 => below(flipped(number::twos_of(z)), kind::size_of(kind), 128),
+        _ => false,
     }
-    if 9 < kind {
-        return false;
-    }
-    below(flipped(number::twos_of(z)), kind::size_of(kind), 128)
 }
 
 // Whether a float's bits are of its kind, which is `own`.
+#[tactic(auto, unfolding(crate::specs::Judging::float_fits))]
 fn float_fits(own: usize, kind: usize, bits: u64) -> bool
     requires { (0 < own) × (own < 12) }
     ensures { result ≡ float_fits own kind bits }
 {
-    if kind != own {
-        return false;
-    }
-    below(bits, kind::size_of(kind), 256)
+    kind == own && below(bits, kind::size_of(kind), 256)
 }
 
 // Whether a run in the content buffer is of a row's kind.
@@ -136,14 +105,11 @@ fn run_fits(cell: u64, place: usize, len: usize, content: &[u8]) -> bool
     requires { FineRow (row_in cell) × (place + len ≤ length content.now) }
     ensures { result ≡ run_fits content.now (row_in cell) place len }
 {
-    let k = table::kind_in(cell);
-    if k == kind::STRING {
-        return text::text_fits(content, place, place + len);
+    match table::kind_in(cell) {
+        kind::STRING => text::text_fits(content, place, place + len),
+        kind::ARRAY => len % kind::size_of(table::elem_in(cell)) == 0,
+        _ => false,
     }
-    if k != kind::ARRAY {
-        return false;
-    }
-    len % kind::size_of(table::elem_in(cell)) == 0
 }
 
 // Whether a present row's value is of its kind and range. A run lies in the content buffer.
@@ -165,36 +131,32 @@ fn value_fits(cell: u64, r: Row, content: &[u8]) -> bool
 }
 
 // Whether a row fits where the levels up to `upto` are present.
+#[tactic(auto, unfolding(crate::specs::Judging::row_fine))]
 fn row_fine(cell: u64, r: Row, upto: u64, content: &[u8]) -> bool
     requires { FineRow (row_in cell) × (outside (length content.now) r.value ≡ false) }
     ensures { result ≡ row_fine content.now upto (row_in cell) r }
 {
-    let l = table::level_in(cell);
+    let present = table::level_in(cell) <= upto;
     if is_absent(r) {
-        if upto < l {
-            return true;
-        }
-        return !table::is_required(cell);
+        !present || !table::is_required(cell)
+    } else {
+        present && value_fits(cell, r, content)
     }
-    if upto < l {
-        return false;
-    }
-    value_fits(cell, r, content)
 }
 
 // The levels that are present at the next row.
+#[tactic(auto, unfolding(crate::specs::Judging::up_after))]
 fn up_after(cell: u64, r: Row, upto: u64) -> u64
     ensures { result ≡ up_after upto (row_in cell) r }
 {
-    let l = table::level_in(cell);
-    if upto < l {
-        return upto;
+    let level = table::level_in(cell);
+    if upto < level {
+        upto
+    } else if is_members(r.value) {
+        level + 1
+    } else {
+        level
     }
-    let v = r.value;
-    if is_members(v) {
-        return l + 1;
-    }
-    l
 }
 
 // The rows in table order, as many as the table has: the first that is not fine decides. Rows that are fine leave what the passes behind
