@@ -3,13 +3,13 @@
 
 ghost use Rattle.std.specs.Prelude.{◌≡◌, List, ℕ, ◌+◌, ◌≤◌, ◌<◌, length, set, drop, replicate};
 ghost use Rattle.payload.specs.Cells.{table_in, FineTable, Stops};
-ghost use Rattle.payload.specs.Reading.{answer_of, walked_of, checked_of, reading_of};
+ghost use Rattle.payload.specs.Reading.{answer_of, walked_of, cleared, checked_of, reading_of};
 ghost use Rattle.payload.specs.Reading.{lacks as lacks_of};
 ghost use Rattle.payload.specs.Walking.{kept, inner_of, Ready, LevelRead, MemberRead, stop_at, Ended, after_of, Admits, Admitted};
 
 use super::member::{Frame, Member, Spot};
 use super::row::{Row, Value};
-use super::table::Table;
+use super::table::{CheckedTable, Table};
 use super::{member, rows, table};
 use wire::verdict::Verdict;
 
@@ -25,6 +25,21 @@ pub struct Reading {
     pub skipped: usize,
     pub filled: usize,
     pub rows: [Row; 64],
+}
+
+impl Reading {
+    // A refusal at a place: no member counts, and the first `filled` of the lent rows are set, to absent.
+    pub fn refused(verdict: Verdict, place: usize, filled: usize) -> Reading
+        ensures { result ≡ cleared filled verdict place }
+    {
+        Reading {
+            verdict,
+            place,
+            skipped: 0,
+            filled,
+            rows: [Row::ABSENT; 64],
+        }
+    }
 }
 
 // How a reading ended: its verdict, place and counts, and how many rows are kept. Rows beyond are absent.
@@ -283,6 +298,13 @@ pub fn read_after(why: Verdict, p: &[u8], cells: &[u64; 64], count: usize, width
         filled: o.filled,
         rows: rows,
     }
+}
+
+// Reads a payload under a checked table. For the library's own readers.
+pub fn read_checked(p: &[u8], table: &CheckedTable) -> Reading
+    ensures { result ≡ checked_of p.now (table_in table.now.count table.now.cells) table.now.count table.now.width }
+{
+    read_after(Verdict::Accepted, p, &table.cells, table.count, table.width)
 }
 
 // 1, then 2. Where neither is given the cells are the table's.

@@ -1,9 +1,9 @@
 // The type table, its rules, and its rows as numbers.
 
-ghost use Rattle.std.specs.Prelude.{◌≡◌, true, ℕ, ◌+◌, ◌*◌, ◌/◌, ◌≤◌, ◌<◌, length, drop, get_or, leb};
+ghost use Rattle.std.specs.Prelude.{◌≡◌, true, false, ℕ, ◌+◌, ◌*◌, ◌/◌, ◌≤◌, ◌<◌, length, drop, get_or, leb, MatchOption};
 ghost use Rattle.wire.specs.Choose.{and};
 ghost use Rattle.payload.specs.Table.{elem_fits, struct_fits, row_fits, level_most, width_fits, find, idents_differ, table_fits};
-ghost use Rattle.payload.specs.Cells.{bit_of, cell_of, ident_in, level_in, kind_in, elem_in, required_in, table_in, FineRow, FineTable, found_at, search_at, missed, Within, Stops, KeyFour, Checked};
+ghost use Rattle.payload.specs.Cells.{bit_of, cell_of, ident_in, level_in, kind_in, elem_in, required_in, row_in, table_in, FineRow, FineTable, found_at, search_at, missed, Within, Stops, KeyFour, Checked, SoundTable};
 
 const ARRAY: u8 = 13;
 
@@ -29,6 +29,43 @@ pub struct Table {
     pub count: usize,
     pub width: usize,
     pub fixed: bool,
+}
+
+// A checked type table: its rows as cells, one number each, how many rows it has, and the width of its length fields. A value of this type
+// keeps the table's rules, so that readers and writers that are handed one need not ask.
+#[derive(Clone, Copy)]
+pub struct CheckedTable {
+    pub cells: [u64; 64],
+    pub count: usize,
+    pub width: usize,
+    pub ghost sound: { SoundTable cells count width },
+}
+
+impl CheckedTable {
+    // The checked form of a table that keeps its rules.
+    pub fn of(t: &Table) -> Option<CheckedTable>
+        ensures { MatchOption result (table_fits t.now ≡ false) (λ c.
+            (c.count ≡ t.now.count) × (c.width ≡ t.now.width) × Checked t.now c.cells true) }
+    {
+        let mut cells = [0u64; 64];
+        if !checked(*t, &mut cells) {
+            return None;
+        }
+        Some(CheckedTable {
+            cells,
+            count: t.count,
+            width: t.width,
+        })
+    }
+
+    // The cell of a row.
+    pub fn cell(&self, i: usize) -> u64
+        requires { i < self.now.count }
+        ensures is { result ≡ get_or self.now.cells i 0 }
+        ensures fine { FineRow (row_in result) }
+    {
+        self.cells[i]
+    }
 }
 
 // A row's index, or no row.
