@@ -1,30 +1,14 @@
-// Verdicts 31 and 30, row by row, and the columns that rows leave for the passes behind.
+// Verdicts 31 and 30, row by row.
 
 ghost use Rattle.std.specs.Prelude.{◌≡◌, ℕ, ◌+◌, ◌-◌, ◌*◌, ◌^◌, ◌≤◌, ◌<◌, length, false, ltb};
-ghost use Rattle.payload.specs.Cells.{row_in, table_in, FineRow, FineTable};
-ghost use Rattle.payload.specs.Row.{is_absent};
-ghost use Rattle.payload.specs.Judging.{outside, unsigned_fits, signed_fits, float_fits, run_fits, value_fits, row_fine, is_members, up_after, judged_of};
-ghost use Rattle.payload.specs.Columns.{flip_of, PackedAt};
+ghost use Rattle.payload.specs.Cells.{row_in, table_in, FineRow};
+ghost use Rattle.payload.specs.Judging.{outside, unsigned_fits, signed_fits, float_fits, run_fits, value_fits, row_fine, is_members, up_after, flip_of, judged_of, judging_is};
 
 use super::row::{Row, Value};
-use super::{columns, table};
+use super::table;
+use super::table::CheckedTable;
+use wire::verdict::Verdict;
 use wire::{kind, number, text};
-
-// What judging the rows gives: all are fine, a run lies outside the content buffer, or a value does not fit.
-#[derive(Clone, Copy)]
-pub enum Judged {
-    Fine,
-    Outside,
-    Unfit,
-}
-
-// Whether a row is absent.
-#[tactic(auto, unfolding(crate::specs::Row::is_absent))]
-fn is_absent(r: Row) -> bool
-    ensures { result ≡ is_absent r }
-{
-    matches!(r.value, Value::Absent)
-}
 
 // Whether a value is a struct's.
 fn is_members(v: Value) -> bool
@@ -137,7 +121,7 @@ fn row_fine(cell: u64, r: Row, upto: u64, content: &[u8]) -> bool
     ensures { result ≡ row_fine content.now upto (row_in cell) r }
 {
     let present = table::level_in(cell) <= upto;
-    if is_absent(r) {
+    if r.is_absent() {
         !present || !table::is_required(cell)
     } else {
         present && value_fits(cell, r, content)
@@ -159,39 +143,19 @@ fn up_after(cell: u64, r: Row, upto: u64) -> u64
     }
 }
 
-// The rows in table order, as many as the table has: the first that is not fine decides. Rows that are fine leave what the passes behind
-// keep of them. For this crate's own passes.
-pub fn judge_rows(
-    rows: [Row; 64],
-    cells: &[u64; 64],
-    count: usize,
-    content: &[u8],
-    nums: &mut [u64; 64],
-    sizes: &mut [usize; 64],
-) -> Judged
-    requires { FineTable count cells.now × (length nums.old ≡ 64) × (length sizes.old ≡ 64) }
-    ensures answer { result ≡ judged_of content.now (table_in count cells.now) rows }
-    ensures columns { result ≡ Judged.Fine → (i : ℕ) → i < count
-        → PackedAt content.now cells.now rows nums.new sizes.new i }
-    ensures long { (length nums.new ≡ 64) × (length sizes.new ≡ 64) × (count ≤ length rows) }
+// The rows in table order, as many as the table has: the first that is not fine decides. For this crate's own writer.
+pub fn judge_rows(rows: &[Row; 64], table: &CheckedTable, content: &[u8]) -> Result<(), Verdict>
+    ensures { result ≡ judging_is (judged_of content.now (table_in table.now.count table.now.cells) rows.now) }
 {
     let mut upto: u64 = 1;
-    let mut i: usize = 0;
-    while i < count {
-        let r = rows[i];
-        let v = r.value;
-        if is_outside(content.len(), v) {
-            return Judged::Outside;
+    for (row, cell) in rows.iter().zip(&table.cells[..table.count]) {
+        if is_outside(content.len(), row.value) {
+            return Err(Verdict::Outside);
         }
-        let cell = cells[i];
-        if !row_fine(cell, r, upto, content) {
-            return Judged::Unfit;
+        if !row_fine(*cell, *row, upto, content) {
+            return Err(Verdict::Value);
         }
-        upto = up_after(cell, r, upto);
-        let h = columns::held_of(cell, r);
-        nums[i] = h.num;
-        sizes[i] = h.size;
-        i += 1;
+        upto = up_after(*cell, *row, upto);
     }
-    Judged::Fine
+    Ok(())
 }

@@ -2,7 +2,7 @@
 use mathlib.Core.Path.{◌≡◌, sym, ap, ◌∙◌}
 use native.Mathlib.Omega.{arith}
 use Rattle.wire.specs.Kind.{size_of}
-use Rattle.payload.specs.Cells.{kind_in, elem_in, row_in}
+use Rattle.payload.specs.Cells.{kind_in, row_in}
 use Rattle.payload.proofs.Writing.ValueLaws.{run_text, run_other, run_array}
 use Rattle.payload.proofs.judge.run_fits.Goals as goal
 

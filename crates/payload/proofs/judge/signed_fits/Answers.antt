@@ -2,7 +2,7 @@
 use mathlib.Core.Path.{ap, ◌∙◌}
 use mir.Facts.{to_z-of_z}
 use Rattle.wire.specs.Number.{twos_of}
-use Rattle.payload.specs.Columns.{flip_of}
+use Rattle.payload.specs.Judging.{flip_of}
 use native.Mathlib.Omega.{arith}
 use Rattle.payload.proofs.Writing.ValueLaws.{signed_other, signed_in_lem}
 use Rattle.payload.proofs.judge.signed_fits.Goals as goal

@@ -1,6 +1,5 @@
 -- `Row::is_absent` meets its contract, value by value.
 use Rattle.std.proofs.Common.{◌≡◌, false, refl}
-use Rattle.payload.specs.declared.row.Row.{Row}
 use Rattle.payload.specs.declared.row.Value.{Value}
 use Rattle.payload.specs.declared.row.Value.TheVariants.{Absent, Unsigned, Signed, Float32, Float64, Bytes, Members}
 use Rattle.payload.specs.Row.{is_absent}
