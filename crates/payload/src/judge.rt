@@ -90,7 +90,7 @@ fn run_fits(cell: u64, place: usize, len: usize, content: &[u8]) -> bool
     ensures { result ≡ run_fits content.now (row_in cell) place len }
 {
     match table::kind_in(cell) {
-        kind::STRING => text::text_fits(content, place, place + len),
+        kind::STRING => text::text_fits(&content[place..place + len]),
         kind::ARRAY => len % kind::size_of(table::elem_in(cell)) == 0,
         _ => false,
     }
