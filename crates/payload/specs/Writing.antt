@@ -132,8 +132,7 @@ written_is (Err v) = record { verdict = v; len = 0 }
 
 -- A write answers its verdict and the payload's length, 0 on refusal.
 unfoldable pub answer_is : Outcome → Written
-answer_is (refused v) = record { verdict = v; len = 0 }
-answer_is (done bytes) = record { verdict = Accepted; len = length bytes }
+answer_is o = written_is (result_is o)
 
 -- A refused write changes no output byte; an accepted one changes the payload's bytes only, from the output's start.
 unfoldable pub output_is : List ℕ → Outcome → List ℕ

@@ -66,8 +66,9 @@ fn write_total(fine: &FineRows, out: &mut [u8]) -> Result<usize, Verdict>
     Ok(total)
 }
 
-// Writes the payload of these rows, or says why it is refused.
-fn write_rows(
+// Writes the payload of these rows, of which `room` are lent, from the output's start, and gives its length, or says why it is refused.
+// A refusal changes no byte. For the library's own writers.
+pub fn write_rows(
     rows: &[Row; 64],
     room: usize,
     t: &Table,

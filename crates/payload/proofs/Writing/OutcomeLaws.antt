@@ -20,15 +20,9 @@ use Rattle.payload.specs.Table.{width_fits, table_fits}
 use Rattle.payload.specs.Cells.{table_in, Checked}
 use Rattle.payload.specs.Reading.{payload_most}
 use Rattle.payload.specs.Tree.{Members, bytes_of}
-use Rattle.payload.specs.Writing.{run_wire, parts_of, nested, some_wide, Outcome, refused, done, sized_of, if_fine, tree_of, outcome_of, answer_is, result_is, written_is}
+use Rattle.payload.specs.Writing.{run_wire, parts_of, nested, some_wide, Outcome, refused, done, sized_of, if_fine, tree_of, outcome_of}
 use Rattle.payload.specs.Sizes.{Wires, fitted_of}
 use Rattle.payload.proofs.Joined.{clash}
-
--- the answer of what a writing gives
-pub written_answer : (o : Outcome) → written_is (result_is o) ≡ answer_is o
-unfolding answer_is
-written_answer (refused v) = refl
-written_answer (done bytes) = refl
 
 -- ---- 33, then 2 for the output
 
