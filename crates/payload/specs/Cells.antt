@@ -1,12 +1,10 @@
 -- A type row as one number, a cell, as the code holds it: Data ID, level, kind, element kind, required. The definitions speak of the rows
 -- that cells stand for.
-use Rattle.std.specs.Prelude.{ℕ, zero, suc, ◌+◌, ◌*◌, ◌/◌, ◌%◌, ◌≤◌, ◌<◌, ◌≡◌, Bool, true, false, List, [], ◌∷◌, length, drop, get_or, eqb}
-use Rattle.std.proofs.Math.Option.{Option, none, some}
+use Rattle.std.specs.Prelude.{ℕ, zero, suc, ◌+◌, ◌*◌, ◌/◌, ◌%◌, ◌≤◌, ◌<◌, ◌≡◌, Bool, true, false, List, [], ◌∷◌, length, drop, get_or, eqb, Option, Some, None}
+use Rattle.std.proofs.Math.Option.{Option as Place, none, some}
 use Rattle.wire.specs.Kind.{array}
 use Rattle.payload.specs.declared.table.TypeRow.{TypeRow}
 use Rattle.payload.specs.declared.table.Table.{Table}
-use Rattle.payload.specs.declared.table.Found.{Found}
-use Rattle.payload.specs.declared.table.Found.TheVariants.{At, Nothing}
 use Rattle.payload.specs.Table.{find, type_rows, width_fits, table_fits}
 
 abbrev pub bit_of : Bool → ℕ
@@ -69,22 +67,18 @@ pub record SoundTable (cells : List ℕ) (n width : ℕ) : Type 0 where
 -- ---- a search
 
 -- the row that is found, counted from the table's first row
-abbrev pub found_at : ℕ → Option ℕ → Found
-found_at first none = Nothing
-found_at first (some k) = At (first + k)
+abbrev pub found_at : ℕ → Place ℕ → Option ℕ
+found_at first none = None
+found_at first (some k) = Some (first + k)
 
 -- the search for the row of a Data ID at a level, from row i on, among the first n
-abbrev pub search_at : ℕ → List ℕ → ℕ → ℕ → ℕ → Found
+abbrev pub search_at : ℕ → List ℕ → ℕ → ℕ → ℕ → Option ℕ
 search_at n cells l x i = found_at i (find l x (drop i (table_in n cells)))
 
-abbrev pub missed : Found → Bool
-missed (At i) = false
-missed Nothing = true
-
 -- what is found is a row of the table, at the level
-abbrev pub Within : List ℕ → ℕ → ℕ → ℕ → Found → Type 0
-Within cells first count l (At i) = (first ≤ i) × (i < count) × (level_in (get_or cells i 0) ≡ l)
-Within cells first count l Nothing = Unit {0}
+abbrev pub Within : List ℕ → ℕ → ℕ → ℕ → Option ℕ → Type 0
+Within cells first count l (Some i) = (first ≤ i) × (i < count) × (level_in (get_or cells i 0) ≡ l)
+Within cells first count l None = Unit {0}
 
 -- From `first` to `stop` no row is above the level; there the table ends, or a row above the level stands.
 pub record Stops (cells : List ℕ) (first stop count l : ℕ) : Type 0 where

@@ -37,8 +37,8 @@ impl Row {
     }
 
     // Whether the row's member was not met, or is not to be written.
-    pub fn is_absent(&self) -> bool
-        ensures { result ≡ is_absent self.now }
+    pub fn is_absent(self) -> bool
+        ensures { result ≡ is_absent self }
     {
         matches!(self.value, Value::Absent)
     }

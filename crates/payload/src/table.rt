@@ -3,7 +3,7 @@
 ghost use Rattle.std.specs.Prelude.{◌≡◌, true, false, ℕ, ◌+◌, ◌*◌, ◌/◌, ◌≤◌, ◌<◌, length, drop, get_or, leb, MatchOption};
 ghost use Rattle.wire.specs.Choose.{and};
 ghost use Rattle.payload.specs.Table.{elem_fits, struct_fits, row_fits, level_most, width_fits, find, idents_differ, table_fits};
-ghost use Rattle.payload.specs.Cells.{bit_of, cell_of, ident_in, level_in, kind_in, elem_in, required_in, row_in, table_in, FineRow, FineTable, found_at, search_at, missed, Within, Stops, KeyFour, Checked, SoundTable};
+ghost use Rattle.payload.specs.Cells.{bit_of, cell_of, ident_in, level_in, kind_in, elem_in, required_in, row_in, table_in, FineRow, FineTable, found_at, search_at, Within, Stops, KeyFour, Checked, SoundTable};
 
 const ARRAY: u8 = 13;
 
@@ -48,7 +48,7 @@ impl CheckedTable {
             (c.count ≡ t.now.count) × (c.width ≡ t.now.width) × Checked t.now c.cells true) }
     {
         let mut cells = [0u64; 64];
-        if !checked(*t, &mut cells) {
+        if !checked(t, &mut cells) {
             return None;
         }
         Some(CheckedTable {
@@ -66,13 +66,23 @@ impl CheckedTable {
     {
         self.cells[i]
     }
-}
 
-// A row's index, or no row.
-#[derive(Clone, Copy)]
-pub enum Found {
-    At(usize),
-    Nothing,
+    // Where the rows of a level end that begin at `first`: at the first row above the level, or with the table.
+    pub fn level_end(&self, first: usize, level: u64) -> usize
+        requires { first ≤ self.now.count }
+        ensures { Stops self.now.cells first result self.now.count level }
+    {
+        level_end(&self.cells, first, self.count, level)
+    }
+
+    // The row of a Data ID among the direct members of the level whose rows are those from `first` to `stop`.
+    pub fn find(&self, first: usize, stop: usize, level: u64, ident: u64) -> Option<usize>
+        requires { Stops self.now.cells first stop self.now.count level × (level < 16) × (ident < 4096) }
+        ensures is { result ≡ search_at self.now.count self.now.cells level ident first }
+        ensures within { Within self.now.cells first self.now.count level result }
+    {
+        find_in(&self.cells, first, stop, level, ident)
+    }
 }
 
 // The level of a cell's row.
@@ -146,7 +156,7 @@ fn packed(r: TypeRow) -> u64
 
 // The row of a Data ID among the direct members of the level whose rows begin at `first`; one test compares level and Data ID.
 // For this crate's own walk.
-fn find_row(cells: &[u64; 64], first: usize, count: usize, level: u64, ident: u64) -> Found
+fn find_row(cells: &[u64; 64], first: usize, count: usize, level: u64, ident: u64) -> Option<usize>
     requires { (count ≤ 64) × (level < 16) × (ident < 4096) }
     ensures { (result ≡ found_at first (find level ident (drop first (table_in count cells.now)))) × Within cells.now first count level result }
 {
@@ -155,14 +165,14 @@ fn find_row(cells: &[u64; 64], first: usize, count: usize, level: u64, ident: u6
     while i < count {
         let c = cells[i];
         if c / 512 == key {
-            return Found::At(i);
+            return Some(i);
         }
         if level_in(c) < level {
-            return Found::Nothing;
+            return None;
         }
         i += 1;
     }
-    Found::Nothing
+    None
 }
 
 // Where the rows of a level end that begin at `first`: at the first row above the level, or with the table.
@@ -202,7 +212,7 @@ fn key_four(cells: &[u64; 64], at: usize, key: u64) -> usize
 }
 
 // The row of a key from `first` to `stop`.
-fn find_key(cells: &[u64; 64], first: usize, stop: usize, key: u64) -> Found
+fn find_key(cells: &[u64; 64], first: usize, stop: usize, key: u64) -> Option<usize>
     requires { (first ≤ stop) × (stop ≤ 64) }
     ensures { (l x : ℕ) → l < 16 → key ≡ x * 16 + l → ((i : ℕ) → first ≤ i → i < stop → l ≤ level_in (get_or cells.now i 0))
         → (result ≡ search_at stop cells.now l x first) × Within cells.now first stop l result }
@@ -210,16 +220,22 @@ fn find_key(cells: &[u64; 64], first: usize, stop: usize, key: u64) -> Found
     let mut i = first;
     while i < stop {
         if cells[i] / 512 == key {
-            return Found::At(i);
+            return Some(i);
         }
         i += 1;
     }
-    Found::Nothing
+    None
 }
 
 // The row of a Data ID among the direct members of the level whose rows are those from `first` to `stop`, four at a time.
 // For this crate's own walk.
-pub fn find_in(cells: &[u64; 64], first: usize, stop: usize, level: u64, ident: u64) -> Found
+pub fn find_in(
+    cells: &[u64; 64],
+    first: usize,
+    stop: usize,
+    level: u64,
+    ident: u64,
+) -> Option<usize>
     requires { (first ≤ stop) × (stop ≤ 64) × (level < 16) × (ident < 4096) × ((i : ℕ) → first ≤ i → i < stop → level ≤ level_in (get_or cells.now i 0)) }
     ensures { (result ≡ search_at stop cells.now level ident first) × Within cells.now first stop level result }
 {
@@ -229,7 +245,7 @@ pub fn find_in(cells: &[u64; 64], first: usize, stop: usize, level: u64, ident: 
         let n = key_four(cells, i, key);
         i += n;
         if n < 4 {
-            return Found::At(i);
+            return Some(i);
         }
     }
     find_key(cells, i, stop, key)
@@ -286,16 +302,6 @@ fn row_fits(r: TypeRow, most: u8) -> bool
     elem_fits(r)
 }
 
-// Whether a search found no row.
-fn is_nothing(f: Found) -> bool
-    ensures { result ≡ missed f }
-{
-    match f {
-        Found::At(_) => false,
-        Found::Nothing => true,
-    }
-}
-
 // Whether the Data IDs differ among the direct members of each struct and among the rows of level 1: each row is searched behind itself.
 fn all_differ(cells: &[u64; 64], count: usize) -> bool
     requires { FineTable count cells.now }
@@ -306,7 +312,7 @@ fn all_differ(cells: &[u64; 64], count: usize) -> bool
         let c = cells[i];
         let next = i + 1;
         let found = find_row(cells, next, count, level_in(c), ident_in(c));
-        if !is_nothing(found) {
+        if found.is_some() {
             return false;
         }
         i = next;
@@ -373,9 +379,9 @@ fn rises(before: bool, last: u64, ident: u64) -> bool
 
 // Whether a table keeps its rules, with its rows' cells. Data IDs that rise in each struct differ; only others are compared one by one.
 // For the library's own readers and writers; users call `table_fits`.
-pub fn checked(t: Table, cells: &mut [u64; 64]) -> bool
+pub fn checked(t: &Table, cells: &mut [u64; 64]) -> bool
     requires { length cells.old ≡ 64 }
-    ensures { Checked t cells.new result }
+    ensures { Checked t.now cells.new result }
 {
     let n = t.count;
     if n == 0 {
@@ -416,5 +422,5 @@ pub fn table_fits(t: Table) -> bool
     ensures { result ≡ table_fits t }
 {
     let mut cells = [0u64; 64];
-    checked(t, &mut cells)
+    checked(&t, &mut cells)
 }

@@ -4,7 +4,8 @@ use mathlib.Core.Path.{◌≡◌, refl, sym, ap, ◌∙◌}
 use Prim.Native.Nat.{ℕ, zero, suc, ◌+◌, ◌-◌, ◌*◌, ◌/◌, ◌%◌, ◌≤◌, ◌<◌}
 use native.Mathlib.Omega.{arith}
 use mathlib.Core.Bool.{Bool, true, false}
-use mathlib.Core.Option.{Option, none, some}
+use mathlib.Core.Option.{Option as Place, none, some}
+use Rattle.std.specs.Prelude.{Option, Some, None, is_some, not}
 use mathlib.Core.List.{List, [], ◌∷◌}
 use lib.ListN.{length, drop, get_or}
 use lib.Seq.{drop-nil, get_or-drop}
@@ -12,10 +13,8 @@ use lib.Dec.{ltb, eqb}
 use borrow.Author.Tests.{lt-ltb, le-ltb, eq-eqb, eqb-true, eqb-false, ltb-true, ltb-false}
 use Rattle.wire.specs.Choose.{pick, and}
 use Rattle.payload.specs.declared.table.TypeRow.{TypeRow}
-use Rattle.payload.specs.declared.table.Found.{Found}
-use Rattle.payload.specs.declared.table.Found.TheVariants.{At, Nothing}
 use Rattle.payload.specs.Table.{later, find, is_none, idents_differ}
-use Rattle.payload.specs.Cells.{bit_of, cell_of, ident_in, level_in, row_in, rows_in, table_in, FineRow, found_at, search_at, missed, Within, Stops}
+use Rattle.payload.specs.Cells.{bit_of, cell_of, ident_in, level_in, row_in, rows_in, table_in, FineRow, found_at, search_at, Within, Stops}
 
 -- ---- the cell of a row
 
@@ -81,14 +80,14 @@ unfolding table_in
 table_length n cells = rows_length n 0 cells
 
 -- behind the row that was found
-later_at : (i : ℕ) (o : Option ℕ) → found_at i (later o) ≡ found_at (suc i) o
+later_at : (i : ℕ) (o : Place ℕ) → found_at i (later o) ≡ found_at (suc i) o
 unfolding later
 later_at i none = refl
-later_at i (some k) = let e : i + suc k ≡ suc i + k = omega arith in ap At e
+later_at i (some k) = let e : i + suc k ≡ suc i + k = omega arith in ap Some e
 
-pub missed_none : (i : ℕ) (o : Option ℕ) → missed (found_at i o) ≡ is_none o
-missed_none i none = refl
-missed_none i (some k) = refl
+none_found : (i : ℕ) (o : Place ℕ) → not (is_some (found_at i o)) ≡ is_none o
+none_found i none = refl
+none_found i (some k) = refl
 
 module _ (cells : List ℕ) (n i : ℕ) where
   pub rows_end : n ≤ i → drop i (table_in n cells) ≡ []
@@ -108,12 +107,12 @@ module _ (cells : List ℕ) (n i : ℕ) where
   -- ---- a search
 
   module _ (l x : ℕ) where
-    pub find_end : n ≤ i → found_at i (find l x (drop i (table_in n cells))) ≡ Nothing
+    pub find_end : n ≤ i → found_at i (find l x (drop i (table_in n cells))) ≡ None
     unfolding find
     find_end h = rw (rows_end h)
 
     module _ (h : i < n) (small : l < 16) where
-      pub find_this : get_or cells i 0 / 512 ≡ x * 16 + l → found_at i (find l x (drop i (table_in n cells))) ≡ At i
+      pub find_this : get_or cells i 0 / 512 ≡ x * 16 + l → found_at i (find l x (drop i (table_in n cells))) ≡ Some i
       unfolding find
       find_this e =
           let a : level_in (get_or cells i 0) ≡ l = omega arith in
@@ -121,7 +120,7 @@ module _ (cells : List ℕ) (n i : ℕ) where
           let z : i + 0 ≡ i = omega arith in
           rw (rows_here h, le-ltb (level_in (get_or cells i 0)) l (omega arith), eq-eqb (level_in (get_or cells i 0)) l a, eq-eqb (ident_in (get_or cells i 0)) x b, z)
 
-      pub find_above : level_in (get_or cells i 0) < l → found_at i (find l x (drop i (table_in n cells))) ≡ Nothing
+      pub find_above : level_in (get_or cells i 0) < l → found_at i (find l x (drop i (table_in n cells))) ≡ None
       unfolding find
       find_above e = rw (rows_here h, lt-ltb (level_in (get_or cells i 0)) l e)
 
@@ -141,17 +140,17 @@ module _ (cells : List ℕ) (n i : ℕ) where
   -- ---- whether Data IDs differ, from row i on
 
   module _ (h : i < n) (l x : ℕ) (el : l ≡ level_in (get_or cells i 0)) (ex : x ≡ ident_in (get_or cells i 0))
-      (f : Found) (ef : f ≡ found_at (suc i) (find l x (drop (suc i) (table_in n cells)))) where
-    behind_none : missed f ≡ is_none (find (level_in (get_or cells i 0)) (ident_in (get_or cells i 0)) (drop (suc i) (table_in n cells)))
-    behind_none = rw (ef, ← el, ← ex) (missed_none (suc i) (find l x (drop (suc i) (table_in n cells))))
+      (f : Option ℕ) (ef : f ≡ found_at (suc i) (find l x (drop (suc i) (table_in n cells)))) where
+    behind_none : not (is_some f) ≡ is_none (find (level_in (get_or cells i 0)) (ident_in (get_or cells i 0)) (drop (suc i) (table_in n cells)))
+    behind_none = rw (ef, ← el, ← ex) (none_found (suc i) (find l x (drop (suc i) (table_in n cells))))
 
-    pub differ_stop : missed f ≡ false → idents_differ (drop i (table_in n cells)) ≡ false
+    pub differ_stop : is_some f ≡ true → idents_differ (drop i (table_in n cells)) ≡ false
     unfolding idents_differ
-    differ_stop e = rw (rows_here h, sym behind_none ∙ e)
+    differ_stop e = rw (rows_here h, sym behind_none ∙ ap not e)
 
-    pub differ_next : missed f ≡ true → idents_differ (drop i (table_in n cells)) ≡ idents_differ (drop (suc i) (table_in n cells))
+    pub differ_next : is_some f ≡ false → idents_differ (drop i (table_in n cells)) ≡ idents_differ (drop (suc i) (table_in n cells))
     unfolding idents_differ
-    differ_next e = rw (rows_here h, sym behind_none ∙ e)
+    differ_next e = rw (rows_here h, sym behind_none ∙ ap not e)
 
   pub differ_end : n ≤ i → idents_differ (drop i (table_in n cells)) ≡ true
   unfolding idents_differ
@@ -186,7 +185,7 @@ module _ (cells : List ℕ) (stop count l x : ℕ) (small : l < 16) (to : stop �
   at_stop : search_at stop cells l x stop ≡ search_at count cells l x stop
   at_stop = find_end cells stop stop l x (omega arith) ∙ sym (go (ltb stop count) refl)
     where
-      go : (b : Bool) → ltb stop count ≡ b → search_at count cells l x stop ≡ Nothing
+      go : (b : Bool) → ltb stop count ≡ b → search_at count cells l x stop ≡ None
       go true e = find_above cells count stop l x (ltb-true stop count e) small (shut (ltb-true stop count e))
       go false e = find_end cells count stop l x (ltb-false stop count e)
 
@@ -209,14 +208,14 @@ module _ (cells : List ℕ) (stop count l x : ℕ) (small : l < 16) (to : stop �
           ∙ sym (find_next cells count first l x (omega arith) small ne lev)
 
 module _ (cells : List ℕ) (first stop count l x : ℕ) (small : l < 16) (s : Stops cells first stop count l) where
-  pub level_search : (f : Found) → f ≡ search_at stop cells l x first → f ≡ search_at count cells l x first
+  pub level_search : (f : Option ℕ) → f ≡ search_at stop cells l x first → f ≡ search_at count cells l x first
   level_search f e = e ∙ rows_enough cells stop count l x small s.to s.shut (stop - first) first (omega (arith, s.from)) s.deep
 
-  pub level_within : (f : Found) → Within cells first stop l f → Within cells first count l f
-  level_within (At i) w = (w.0, omega (arith, w.1, s.to), w.2)
-  level_within Nothing w = tt
+  pub level_within : (f : Option ℕ) → Within cells first stop l f → Within cells first count l f
+  level_within (Some i) w = (w.0, omega (arith, w.1, s.to), w.2)
+  level_within None w = tt
 
 -- what is found from a later row on
-pub within_later : (cells : List ℕ) (first i stop l : ℕ) → first ≤ i → (f : Found) → Within cells i stop l f → Within cells first stop l f
-within_later cells first i stop l h (At k) w = (omega (arith, w.0), w.1, w.2)
-within_later cells first i stop l h Nothing w = tt
+pub within_later : (cells : List ℕ) (first i stop l : ℕ) → first ≤ i → (f : Option ℕ) → Within cells i stop l f → Within cells first stop l f
+within_later cells first i stop l h (Some k) w = (omega (arith, w.0), w.1, w.2)
+within_later cells first i stop l h None w = tt

@@ -20,4 +20,4 @@ present (Bytes place len) bits ne = refl
 present Members bits ne = refl
 
 pub returns-in_default : goal.returns-in_default
-returns-in_default c = present c.args.self.now.value c.args.self.now.bits c.in_default.not-Absent
+returns-in_default c = present c.args.self.value c.args.self.bits c.in_default.not-Absent
