@@ -17,11 +17,22 @@ const LEAST_POWER: i64 = -1000;
 const MOST_POWER: i64 = 309;
 
 // The float32 and the float64, which holds each of the other.
-pub trait Float: Copy + PartialEq + FromStr<Err = ParseFloatError> + Into<f64> {}
+pub trait Float: Copy + PartialEq + FromStr<Err = ParseFloatError> + Into<f64> {
+    // The bits as a number, but of infinity and a NaN.
+    fn finite_bits(self) -> Option<u64>;
+}
 
-impl Float for f32 {}
+impl Float for f32 {
+    fn finite_bits(self) -> Option<u64> {
+        self.is_finite().then(|| u64::from(self.to_bits()))
+    }
+}
 
-impl Float for f64 {}
+impl Float for f64 {
+    fn finite_bits(self) -> Option<u64> {
+        self.is_finite().then(|| self.to_bits())
+    }
+}
 
 // Why a word is no float's decimal: it is none; it has more than 18 digits or an exponent that no float has; or it is too large for the float.
 #[derive(Clone, Copy, Debug, PartialEq, Eq)]
@@ -80,8 +91,8 @@ fn is_near(digits: usize, power: i64) -> bool {
         || (LEAST_POWER <= power && power.saturating_add_unsigned(digits as u64) <= MOST_POWER)
 }
 
-// The float nearest to a decimal without a sign, half to even.
-pub fn parse<F: Float>(word: &[u8]) -> Result<F, DecimalError> {
+// The bits of the float nearest to a decimal without a sign, half to even.
+pub fn bits<F: Float>(word: &[u8]) -> Result<u64, DecimalError> {
     let end = word
         .iter()
         .position(|b| !b.is_ascii_digit() && *b != b'.')
@@ -94,10 +105,7 @@ pub fn parse<F: Float>(word: &[u8]) -> Result<F, DecimalError> {
     }
     let text = str::from_utf8(word).map_err(|_| DecimalError::NotADecimal)?;
     let float = text.parse::<F>().map_err(|_| DecimalError::NotADecimal)?;
-    if float.into().is_infinite() {
-        return Err(DecimalError::TooLarge);
-    }
-    Ok(float)
+    float.finite_bits().ok_or(DecimalError::TooLarge)
 }
 
 // A finite float from 0 on, printed by the fewest digits that are read back as the same float: plain from 0.00001 up to 17 digits before the
