@@ -1,43 +1,41 @@
 // The program's arguments, as bytes. Argument 0 is the program's name.
 
-ghost use Rattle.io.specs.Counts.{IsPrefixLen};
+ghost use Rattle.std.specs.Prelude.{◌≤◌, IfSome, length};
 
+use std::alloc::{AllocError, Global};
 use std::env::FillError;
 use std::rt::Env;
 
-// Puts an argument at the start of a buffer and answers its length, or 0 where it is missing or longer than the buffer.
-pub fn get<E: Env>(rt: &E, i: usize, buf: &mut [u8]) -> usize
-    ensures { IsPrefixLen result buf.new }
-{
-    match rt.arg(i, buf) {
-        Ok(n) => n,
-        Err(_) => 0,
-    }
+// The most bytes that an argument may have.
+pub const MOST: usize = 4096;
+
+// All arguments; none stands for one that is too long.
+#[derive(Drop)]
+pub struct Arguments {
+    all: Vec<Option<Vec<u8>>>,
 }
 
-// Whether an argument is longer than a buffer, which is overwritten.
-pub fn is_longer<E: Env>(rt: &E, i: usize, buf: &mut [u8]) -> bool {
-    match rt.arg(i, buf) {
-        Err(FillError::TooLong) => true,
-        _ => false,
-    }
-}
-
-// Whether there is an argument of a number.
-fn is_there<E: Env>(rt: &E, i: usize) -> bool {
-    let mut buf = [0u8; 1];
-    match rt.arg(i, &mut buf) {
-        Err(FillError::NotPresent) => false,
-        _ => true,
-    }
-}
-
-// How many arguments there are, the program's name among them.
-pub fn count<E: Env>(rt: &E) -> usize {
-    for i in 0..usize::MAX {
-        if !is_there(rt, i) {
-            return i;
+impl Arguments {
+    pub fn new<E: Env>(rt: &E, alloc: Global) -> Result<Arguments, AllocError> {
+        let mut all = Vec::new(alloc);
+        for i in 0..usize::MAX {
+            let mut text = [0u8; MOST];
+            match rt.arg(i, &mut text) {
+                Ok(n) => all.push(Some(Vec::from_slice(alloc, &text[..n])?))?,
+                Err(FillError::TooLong) => all.push(None)?,
+                Err(FillError::NotPresent) => break,
+            }
         }
+        Ok(Arguments { all })
     }
-    usize::MAX
+
+    // How many arguments there are, the program's name among them.
+    pub fn len(&self) -> usize {
+        self.all.len()
+    }
+
+    // An argument, unless it is missing or too long.
+    pub fn get(&self, i: usize) -> Option<&[u8]> {
+        self.all.get(i)?.as_ref().map(|text| text.as_slice())
+    }
 }

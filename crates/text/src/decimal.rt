@@ -1,243 +1,164 @@
-// Decimals as text: digits with a point, and an exponent behind e.
+// Floats from 0 on as decimals: digits with a point, and an exponent behind e.
 
-ghost use Rattle.std.specs.Prelude.{◌≤◌, length};
+use super::number;
+use super::number::NumberError;
+use arrayvec::ArrayString;
+use std::fmt::Write;
+use std::num::ParseFloatError;
+use std::str::FromStr;
+use std::{fmt, str};
 
-use super::float::Decimal;
-use super::number::Number;
-use super::{big, number, say, slice};
+// The most digits that a decimal may have, but for zeros in front.
+const MOST_DIGITS: usize = 18;
 
-// What a text is as a decimal: one, one with more than 18 digits or an exponent that no float has, or none.
-#[derive(Clone, Copy)]
-pub enum Parsed {
-    Is(Decimal),
-    Far,
-    Not,
+// How far the last digit may stand behind the unit, and the first before it: no float is as small or as large.
+const LEAST_POWER: i64 = -1000;
+
+const MOST_POWER: i64 = 309;
+
+// The float32 and the float64, which holds each of the other.
+pub trait Float: Copy + PartialEq + FromStr<Err = ParseFloatError> + Into<f64> {
+    // The bits as a number, but of infinity and a NaN.
+    fn finite_bits(self) -> Option<u64>;
 }
 
-// The digits before an exponent: their number, how many there are and how many behind a point, how many points, and whether they are too many.
-#[derive(Clone, Copy)]
-struct Digits {
-    value: u64,
-    count: usize,
-    behind: usize,
-    points: usize,
-    many: bool,
-}
-
-impl Digits {
-    // One byte more, a point or a digit.
-    fn with(mut self, b: u8) -> Digits {
-        if b == b'.' {
-            if self.points < 9 {
-                self.points += 1;
-            }
-            return self;
-        }
-        if 99999999999999999 < self.value {
-            self.many = true;
-            return self;
-        }
-        self.value = self.value * 10 + number::digit(b) % 10;
-        if self.count < 100000 {
-            self.count += 1;
-        }
-        if 0 < self.points {
-            if self.behind < 100000 {
-                self.behind += 1;
-            }
-        }
-        self
+impl Float for f32 {
+    fn finite_bits(self) -> Option<u64> {
+        self.is_finite().then(|| u64::from(self.to_bits()))
     }
 }
 
-// Where the digits and points at a text's start end.
-fn digits_end(s: &[u8]) -> usize
-    ensures { result ≤ length s.now }
-{
-    let mut i: usize = 0;
-    while i < s.len() {
-        if s[i] != b'.' {
-            if 10 <= number::digit(s[i]) {
-                return i;
-            }
-        }
-        i += 1;
+impl Float for f64 {
+    fn finite_bits(self) -> Option<u64> {
+        self.is_finite().then(|| self.to_bits())
     }
-    i
 }
 
-// The digits of a text that has nothing else but points.
-fn digits_of(s: &[u8]) -> Digits {
-    let mut d = Digits {
-        value: 0,
-        count: 0,
-        behind: 0,
-        points: 0,
-        many: false,
+// Why a word is no float's decimal: it is none; it has more than 18 digits or an exponent that no float has; or it is too large for the float.
+#[derive(Clone, Copy, Debug, PartialEq, Eq)]
+pub enum DecimalError {
+    NotADecimal,
+    TooFar,
+    TooLarge,
+}
+
+impl From<NumberError> for DecimalError {
+    fn from(why: NumberError) -> DecimalError {
+        match why {
+            NumberError::NotANumber => DecimalError::NotADecimal,
+            NumberError::TooLarge => DecimalError::TooFar,
+        }
+    }
+}
+
+// How many digits stand before an exponent, without zeros in front, and how many of them behind the point.
+fn digits_of(text: &[u8]) -> Result<(usize, usize), DecimalError> {
+    let points = text.iter().filter(|b| **b == b'.').count();
+    let digits = text
+        .iter()
+        .filter(|b| **b != b'.')
+        .skip_while(|b| **b == b'0')
+        .count();
+    if MOST_DIGITS < digits {
+        return Err(DecimalError::TooFar);
+    }
+    if 1 < points || text.len() == points {
+        return Err(DecimalError::NotADecimal);
+    }
+    let behind = text.iter().rev().take_while(|b| **b != b'.').count();
+    Ok((digits, behind * points))
+}
+
+// The exponent that stands behind the digits.
+fn exponent_of(text: &[u8]) -> Result<i64, DecimalError> {
+    let (is_negative, digits) = match text {
+        [] => return Ok(0),
+        [b'e' | b'E', b'-', digits @ ..] => (true, digits),
+        [b'e' | b'E', b'+', digits @ ..] | [b'e' | b'E', digits @ ..] => (false, digits),
+        _ => return Err(DecimalError::NotADecimal),
     };
-    let mut i: usize = 0;
-    while i < s.len() {
-        d = d.with(s[i]);
-        i += 1;
-    }
-    d
-}
-
-// The decimal of digits whose last stands so many places below the unit.
-fn at_place(value: u64, below: usize) -> Parsed {
-    if value == 0 {
-        return Parsed::Is(Decimal {
-            digits: 0,
-            last: big::UNIT,
-        });
-    }
-    if 1000 < below {
-        return Parsed::Far;
-    }
-    Parsed::Is(Decimal {
-        digits: value,
-        last: big::UNIT + below,
-    })
-}
-
-// The same of so many places above the unit. A decimal of 10^309 on is none that a float has.
-fn above_unit(value: u64, above: usize) -> Parsed {
-    if value == 0 {
-        return at_place(0, 0);
-    }
-    let mut text = [0u8; 20];
-    let n = io::decimal(value, &mut text);
-    if 309 < above {
-        return Parsed::Far;
-    }
-    if 309 < above + n % 32 {
-        return Parsed::Far;
-    }
-    Parsed::Is(Decimal {
-        digits: value,
-        last: big::UNIT - above,
-    })
-}
-
-// The decimal of digits and an exponent.
-fn raised(d: Digits, negative: bool, exponent: u64) -> Parsed {
-    let behind = d.behind % 131072;
+    let exponent = number::of_digits(digits, 10)?;
     if 1000 < exponent {
-        return Parsed::Far;
+        return Err(DecimalError::TooFar);
     }
-    let e = exponent as usize;
-    if negative {
-        return at_place(d.value, behind + e);
-    }
-    if e < behind {
-        return at_place(d.value, behind - e);
-    }
-    above_unit(d.value, e - behind)
+    let exponent = exponent as i64;
+    Ok(if is_negative { -exponent } else { exponent })
 }
 
-// An exponent's digits, behind its sign.
-fn with_exponent(d: Digits, s: &[u8], from: usize, negative: bool) -> Parsed {
-    match number::decimal(slice::between(s, from, s.len())) {
-        Number::Is(e) => raised(d, negative, e),
-        Number::Large => Parsed::Far,
-        Number::Not => Parsed::Not,
+// Whether a float can be as large and as small as digits, the last of which stands at a power of 10.
+fn is_near(digits: usize, power: i64) -> bool {
+    digits == 0
+        || (LEAST_POWER <= power && power.saturating_add_unsigned(digits as u64) <= MOST_POWER)
+}
+
+// The bits of the float nearest to a decimal without a sign, half to even.
+pub fn bits<F: Float>(word: &[u8]) -> Result<u64, DecimalError> {
+    let end = word
+        .iter()
+        .position(|b| !b.is_ascii_digit() && *b != b'.')
+        .unwrap_or(word.len());
+    let (text, behind) = word.split_at(end);
+    let (digits, places) = digits_of(text)?;
+    let power = exponent_of(behind)?.saturating_sub_unsigned(places as u64);
+    if !is_near(digits, power) {
+        return Err(DecimalError::TooFar);
+    }
+    let text = str::from_utf8(word).map_err(|_| DecimalError::NotADecimal)?;
+    let float = text.parse::<F>().map_err(|_| DecimalError::NotADecimal)?;
+    float.finite_bits().ok_or(DecimalError::TooLarge)
+}
+
+// A finite float from 0 on, printed by the fewest digits that are read back as the same float: plain from 0.00001 up to 17 digits before the
+// point, with an exponent else.
+#[derive(Clone, Copy)]
+pub struct Shortest<F>(pub F);
+
+// The longest float in digits, a point and an exponent: 17 digits and an exponent of 3.
+const ROOM: usize = 32;
+
+// A float's digits, the first before a point, and its exponent; so many digits stand behind the point.
+fn exponential(float: f64, places: usize) -> Result<ArrayString<ROOM>, fmt::Error> {
+    let mut text = ArrayString::new();
+    write!(text, "{float:.places$e}")?;
+    Ok(text)
+}
+
+// The fewest digits that are read back as the same float. 9 digits, or 17 of a float64, always are.
+fn fewest_digits<F: Float>(float: F) -> Result<ArrayString<ROOM>, fmt::Error> {
+    for places in 0..16 {
+        let text = exponential(float.into(), places)?;
+        if text.as_str().parse::<F>().is_ok_and(|back| back == float) {
+            return Ok(text);
+        }
+    }
+    exponential(float.into(), 16)
+}
+
+impl<F: Float> fmt::Display for Shortest<F> {
+    fn fmt<W: fmt::Write>(&self, f: &mut fmt::Formatter<W>) -> fmt::Result {
+        let text = fewest_digits(self.0)?;
+        let (digits, exponent) = text.as_str().split_once('e').ok_or(fmt::Error)?;
+        let (first, others) = digits.split_once('.').unwrap_or((digits, ""));
+        match exponent.parse::<i32>().map_err(|_| fmt::Error)? {
+            power @ -5..=-1 => {
+                let places = power.unsigned_abs() as usize;
+                write!(f, "0.{first:0>places$}{others}")
+            }
+            power @ 0..=16 => write_plain(f, first, others, power as usize),
+            power => write!(f, "{digits}e{power:+}"),
+        }
     }
 }
 
-// A decimal of digits and the text behind them.
-fn exponent_of(d: Digits, s: &[u8]) -> Parsed {
-    match slice::byte_at(s, 0) {
-        b'e' | b'E' => {}
-        _ => return Parsed::Not,
+// The first digit and others, so many of them before the point.
+fn write_plain<W: fmt::Write>(
+    f: &mut fmt::Formatter<W>,
+    first: &str,
+    others: &str,
+    places: usize,
+) -> fmt::Result {
+    match others.split_at_checked(places) {
+        Some((before, behind)) if !behind.is_empty() => write!(f, "{first}{before}.{behind}"),
+        _ => write!(f, "{first}{others:0<places$}"),
     }
-    match slice::byte_at(s, 1) {
-        b'-' => with_exponent(d, s, 2, true),
-        b'+' => with_exponent(d, s, 2, false),
-        _ => with_exponent(d, s, 1, false),
-    }
-}
-
-// Whether digits are those of a decimal.
-fn are_fine(d: Digits) -> bool {
-    d.points < 2 && 0 < d.count
-}
-
-// A decimal without a sign.
-pub fn parse(s: &[u8]) -> Parsed {
-    let end = digits_end(s);
-    let d = digits_of(slice::between(s, 0, end));
-    if d.many {
-        return Parsed::Far;
-    }
-    if !are_fine(d) {
-        return Parsed::Not;
-    }
-    if end == s.len() {
-        return raised(d, false, 0);
-    }
-    exponent_of(d, slice::between(s, end, s.len()))
-}
-
-// So many zeros, at most 20.
-fn zeros(fd: i32, n: usize) -> bool {
-    io::write_all(fd, slice::between(b"00000000000000000000", 0, n))
-}
-
-// Digits, with a point behind the first so many.
-fn pointed(fd: i32, s: &[u8], n: usize) -> bool {
-    if s.len() <= n {
-        return io::write_all(fd, s);
-    }
-    io::write_all(fd, slice::between(s, 0, n));
-    say::byte(fd, b'.');
-    io::write_all(fd, slice::between(s, n, s.len()))
-}
-
-// Digits with an exponent: how far the first stands before or behind the unit.
-fn with_power(fd: i32, s: &[u8], first: usize) -> bool {
-    pointed(fd, s, 1);
-    say::byte(fd, b'e');
-    if first <= big::UNIT {
-        say::byte(fd, b'+');
-        return io::print_decimal(fd, (big::UNIT - first) as u64);
-    }
-    say::byte(fd, b'-');
-    io::print_decimal(fd, (first - big::UNIT) as u64)
-}
-
-// Digits behind a point and so many zeros.
-fn below_one(fd: i32, s: &[u8], n: usize) -> bool {
-    say::byte(fd, b'0');
-    say::byte(fd, b'.');
-    zeros(fd, n);
-    io::write_all(fd, s)
-}
-
-// Digits whose first and last stand at indices.
-fn print_digits(fd: i32, s: &[u8], first: usize, last: usize) -> bool {
-    if first < 307 {
-        return with_power(fd, s, first);
-    }
-    if last <= big::UNIT {
-        io::write_all(fd, s);
-        return zeros(fd, big::UNIT - last);
-    }
-    if first <= big::UNIT {
-        return pointed(fd, s, big::UNIT + 1 - first);
-    }
-    if first < big::UNIT + 6 {
-        return below_one(fd, s, first - big::UNIT - 1);
-    }
-    with_power(fd, s, first)
-}
-
-// Writes a decimal: plain from 0.00001 up to 17 digits before the point, with an exponent else.
-pub fn print(fd: i32, d: Decimal) -> bool {
-    let mut text = [0u8; 20];
-    let n = io::decimal(d.digits, &mut text);
-    let last = d.last % 4096;
-    if last + 1 < n {
-        return false;
-    }
-    print_digits(fd, &text[..n], last + 1 - n, last)
 }

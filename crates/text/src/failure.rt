@@ -1,70 +1,35 @@
-// Calls of the system that failed, said on standard error.
+// Calls of the system that failed, as text.
 
-ghost use Rattle.std.specs.Prelude.{◌≤◌, length};
-
-use super::say::ERR;
-use super::slice;
+use arrayvec::ArrayString;
 use std::fmt;
 use std::fmt::Write;
 use std::io::Error;
 
-// The system's codes for a descriptor that is not open, and for a name that is no text.
-pub const NOT_OPEN: i32 = 9;
-
-pub const NO_TEXT: i32 = 84;
-
-// How many bytes of a reason are kept.
+// The most bytes of an error as text. The system's reasons are far shorter.
 const ROOM: usize = 256;
 
-// Why a call failed, as text. What there is no room for is lost.
-#[derive(Drop)]
-struct Reason {
-    bytes: [u8; ROOM],
-    len: usize,
+// The system's error for a descriptor that is not open.
+pub(crate) fn not_open() -> Error {
+    Error::from_raw_os_error(9)
 }
 
-impl Reason {
-    // One byte more.
-    fn push(&mut self, b: u8) {
-        let n = self.len;
-        if n < ROOM {
-            self.bytes[n] = b;
-            self.len = n + 1;
-        }
+// The system's error for a name that is no text.
+pub(crate) fn no_text() -> Error {
+    Error::from_raw_os_error(84)
+}
+
+// Why a call failed, without the system's number, which stands behind the reason.
+#[derive(Clone, Copy)]
+pub struct Reason<'a>(pub &'a Error);
+
+impl fmt::Display for Reason<'_> {
+    fn fmt<W: fmt::Write>(&self, f: &mut fmt::Formatter<W>) -> fmt::Result {
+        let mut text = ArrayString::<ROOM>::new();
+        write!(text, "{}", self.0)?;
+        let all = text.as_str();
+        let reason = all
+            .split_once(" (os error ")
+            .map_or(all, |(reason, _)| reason);
+        f.write_str(reason)
     }
-}
-
-impl fmt::Write for Reason {
-    fn write_str(&mut self, s: &str) -> fmt::Result {
-        for b in s.as_bytes() {
-            self.push(*b);
-        }
-        Ok(())
-    }
-}
-
-// Where a reason ends: before the system's number, which stands behind it.
-fn end_of(s: &[u8]) -> usize
-    ensures { result ≤ length s.now }
-{
-    for i in 0..s.len() {
-        if slice::alike(slice::between(s, i, i + 11), b" (os error ") {
-            return i;
-        }
-    }
-    s.len()
-}
-
-// Writes a line: what failed, as the caller names it, a colon and the system's reason.
-pub fn say(what: &[u8], error: &Error) {
-    let mut reason = Reason {
-        bytes: [0u8; ROOM],
-        len: 0,
-    };
-    let _ = write!(reason, "{error}");
-    let all = slice::between(&reason.bytes, 0, reason.len);
-    io::write_all(ERR, what);
-    io::write_all(ERR, b": ");
-    io::write_all(ERR, slice::between(all, 0, end_of(all)));
-    io::write_all(ERR, b"\n");
 }

@@ -1,83 +1,59 @@
 // Files by their names, read to their ends; - is standard input.
 
-ghost use Rattle.std.specs.Prelude.{◌≡◌};
-ghost use Rattle.text.specs.Input.{Taken};
+ghost use Rattle.std.specs.Prelude.{◌≤◌, IfOk, vec_len};
 
-use super::input::Input;
-use super::{failure, input, slice};
-use std::io::Read;
+use super::input::InputError;
+use super::{failure, input};
+use std::io::Input;
 use std::rt::Files;
 use std::{fs, io, str};
 
-// Standard input, which is closed once it has been read.
+// The files of a runtime, and its standard input, which is closed once it has been read.
 #[derive(Drop)]
-pub struct Standard {
+pub struct Inputs<'a, R> {
+    rt: &'a R,
     is_closed: bool,
 }
 
-impl Standard {
-    pub fn new() -> Standard {
-        Standard { is_closed: false }
+impl<'a, R: Files + Input + AllocGlobal> Inputs<'a, R> {
+    pub fn new(rt: &'a R) -> Self {
+        Inputs {
+            rt,
+            is_closed: false,
+        }
+    }
+
+    // The first bytes of a file, at most so many.
+    pub fn read_start(&mut self, path: &[u8], most: usize) -> io::Result<Vec<u8>> {
+        if path == b"-".as_slice() {
+            return self.read_standard(most);
+        }
+        input::read_start(self.rt.alloc(), open(self.rt, path)?, most)
+    }
+
+    // The whole of a file, which may have at most so many bytes.
+    pub fn read_whole(&mut self, path: &[u8], most: usize) -> Result<Vec<u8>, InputError>
+        ensures bound { IfOk result (λ whole. vec_len whole ≤ most) }
+    {
+        input::within(self.read_start(path, most.saturating_add(1))?, most)
+    }
+
+    // The first bytes of standard input, which can't be read twice.
+    fn read_standard(&mut self, most: usize) -> io::Result<Vec<u8>> {
+        if self.is_closed {
+            return Err(failure::not_open());
+        }
+        self.is_closed = true;
+        input::read_start(self.rt.alloc(), self.rt.reader(), most)
     }
 }
 
-// Opens a file for reading. A name that is no text is that of no file.
+// A file's name as text, which the system's calls ask for. One that is no text is that of no file.
+pub fn name_of(path: &[u8]) -> io::Result<&str> {
+    str::from_utf8(path).map_err(|_| failure::no_text())
+}
+
+// Opens a file for reading.
 pub fn open<R: Files>(rt: &R, path: &[u8]) -> io::Result<R::File> {
-    match str::from_utf8(path) {
-        Ok(name) => fs::open(rt, name),
-        Err(_) => Err(io::Error::from_raw_os_error(failure::NO_TEXT)),
-    }
-}
-
-// Says why a file can't be read.
-fn told(path: &[u8], why: &io::Error) -> Input
-    ensures { result ≡ Input.Failed }
-{
-    failure::say(path, why);
-    Input::Failed
-}
-
-// Reads what is open into a buffer, closes it, and says why where it can't be read.
-pub fn read_open<S: Read + Drop>(source: S, path: &[u8], buf: &mut [u8]) -> Input
-    ensures { Taken buf.new result }
-{
-    let mut open = source;
-    match input::read_or_fail(&mut open, buf) {
-        Ok(got) => got,
-        Err(e) => told(path, &e),
-    }
-}
-
-// Reads standard input, which can't be read twice.
-fn read_standard<R: io::Input>(
-    rt: &R,
-    standard: &mut Standard,
-    path: &[u8],
-    buf: &mut [u8],
-) -> Input
-    ensures { Taken buf.new result }
-{
-    if standard.is_closed {
-        return told(path, &io::Error::from_raw_os_error(failure::NOT_OPEN));
-    }
-    standard.is_closed = true;
-    read_open(rt.reader(), path, buf)
-}
-
-// Reads a file into a buffer that has a byte more than the file may have, and says why where it can't be read.
-pub fn read_file<R: Files + io::Input>(
-    rt: &R,
-    standard: &mut Standard,
-    path: &[u8],
-    buf: &mut [u8],
-) -> Input
-    ensures { Taken buf.new result }
-{
-    if slice::alike(path, b"-") {
-        return read_standard(rt, standard, path, buf);
-    }
-    match open(rt, path) {
-        Ok(source) => read_open(source, path, buf),
-        Err(e) => told(path, &e),
-    }
+    fs::open(rt, name_of(path)?)
 }

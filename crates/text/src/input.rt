@@ -1,41 +1,56 @@
 // An input, read to its end.
 
-ghost use Rattle.std.specs.Prelude.{IfOk};
-ghost use Rattle.text.specs.Input.{Taken};
+ghost use Rattle.std.specs.Prelude.{◌≡◌, ◌≤◌, ◌<◌, Err, IfErr, IfOk, IfSome, length, take, vec_len};
+ghost use Rattle.text.specs.declared.input.InputError.TheVariants.{Unread};
 
+use std::alloc::Global;
 use std::io;
 use std::io::Read;
 
-// What was read: so many bytes at the buffer's start, an input that is longer than it may be, or a read that failed.
-#[derive(Clone, Copy)]
-pub enum Input {
-    Bytes(usize),
-    Long,
-    Failed,
+// Why there is no input: it is longer than it may be, or a read failed.
+#[derive(Debug, Drop)]
+pub enum InputError {
+    TooLong,
+    Unread(io::Error),
 }
 
-// Reads a file until it ends, or says why a read failed. An input that fills the buffer is too long, so the buffer has a byte more than an input
-// may have.
-pub(crate) fn read_or_fail<S: Read>(source: &mut S, buf: &mut [u8]) -> io::Result<Input>
-    ensures { IfOk result (λ got. Taken buf.new got) }
-{
-    let mut n: usize = 0;
-    while n < buf.len() {
-        let more = source.read(&mut buf[n..])?;
-        if more == 0 {
-            return Ok(Input::Bytes(n));
-        }
-        n += more;
+impl From<io::Error> for InputError {
+    ghost from_gives = { λ why error. error ≡ Unread why };
+
+    fn from(why: io::Error) -> InputError {
+        InputError::Unread(why)
     }
-    Ok(Input::Long)
 }
 
-// The same, where it does not matter why.
-pub fn read_input<S: Read>(source: &mut S, buf: &mut [u8]) -> Input
-    ensures { Taken buf.new result }
+// The first bytes of an input, at most so many. What stands behind them is not read.
+pub fn read_start<S: Read + Drop>(alloc: Global, source: S, most: usize) -> io::Result<Vec<u8>>
+    ensures bytes { IfOk result (λ start. IfSome (S.remaining source) (λ all. start.items ≡ take most all)) }
 {
-    match read_or_fail(source, buf) {
-        Ok(got) => got,
-        Err(_) => Input::Failed,
+    let mut start = Vec::new(alloc);
+    source.take(most as u64).read_to_end(&mut start)?;
+    Ok(start)
+}
+
+// An input that may have at most so many bytes.
+pub(crate) fn within(all: Vec<u8>, most: usize) -> Result<Vec<u8>, InputError>
+    ensures bound { IfOk result (λ whole. whole ≡ all × vec_len whole ≤ most) }
+    ensures too_long { IfErr result (λ e. e ≡ InputError.TooLong × most < vec_len all) }
+{
+    if most < all.len() {
+        return Err(InputError::TooLong);
     }
+    Ok(all)
+}
+
+// The whole of an input, which may have at most so many bytes.
+pub fn read_whole<S: Read + Drop>(
+    alloc: Global,
+    source: S,
+    most: usize,
+) -> Result<Vec<u8>, InputError>
+    ensures bound { IfOk result (λ whole. vec_len whole ≤ most) }
+    ensures bytes { IfOk result (λ whole. IfSome (S.remaining source) (λ all. whole.items ≡ all)) }
+    ensures too_long { result ≡ Err InputError.TooLong → IfSome (S.remaining source) (λ all. most < length all) }
+{
+    within(read_start(alloc, source, most.saturating_add(1))?, most)
 }

@@ -1,20 +1,18 @@
 // Text that people write, for the programs: arguments, a file or an input read to its end, words and numbers in a line, floats as decimals, and
-// parts of slices.
+// quotations.
 //
 // No function that a program calls has a premise: whatever stands in a text is answered.
 
 #![tactic(auto)]
 
 pub mod argument;
-pub mod big;
 pub mod decimal;
 pub mod failure;
 pub mod file;
-pub mod float;
 pub mod input;
-pub mod list;
 pub mod number;
 pub mod quote;
 pub mod say;
-pub mod slice;
+#[cfg(test)]
+mod tests;
 pub mod word;

@@ -1,89 +1,68 @@
 // Numbers as people write them: decimal, or hexadecimal behind 0x.
 
-ghost use Rattle.std.specs.Prelude.{◌≤◌};
+ghost use Rattle.std.specs.Prelude.{◌≡◌, ◌≤◌, ◌^◌, ◌-◌, Err, IfSome, drop, is_some};
+ghost use Rattle.std.specs.Str.Parse.{IsNumeral, ParsesUpTo, digits_value};
+ghost use Rattle.text.specs.Number.{digits_of, is_prefixed, radix_of};
 
-use super::slice;
-
-// What a word is as a number: its value, over 64 bits, or none.
-#[derive(Clone, Copy)]
-pub enum Number {
-    Is(u64),
-    Large,
-    Not,
+// Why a word is no number: it has something else than digits, or it is over 64 bits.
+#[derive(Clone, Copy, Debug, PartialEq, Eq)]
+pub enum NumberError {
+    NotANumber,
+    TooLarge,
 }
 
-// The number of a digit, and 16 for any other byte.
-pub fn digit(b: u8) -> u64
-    ensures { result ≤ 16 }
+// The number of digits, the first of them the highest. The first digit that is none, or too many, decides which error it is.
+#[tactic(auto, using(crate::proofs::Digits::at_least))]
+pub(crate) fn of_digits(digits: &[u8], radix: u32) -> Result<u64, NumberError>
+    requires { (2 ≤ radix) × (radix ≤ 36) }
+    ensures value { ParsesUpTo (2 ^ 64 - 1) radix digits.now result }
+    ensures not_a_number { result ≡ Err NumberError.NotANumber → ¬ IsNumeral radix digits.now }
+    ensures too_large { result ≡ Err NumberError.TooLarge → 2 ^ 64 ≤ digits_value radix digits.now }
 {
-    match b {
-        b'0'..=b'9' => (b - b'0') as u64,
-        b'A'..=b'F' => (b - b'A' + 10) as u64,
-        b'a'..=b'f' => (b - b'a' + 10) as u64,
-        _ => 16,
+    if digits.is_empty() {
+        return Err(NumberError::NotANumber);
     }
+    let mut number: u64 = 0;
+    for digit in digits {
+        let worth = char::from(*digit)
+            .to_digit(radix)
+            .ok_or(NumberError::NotANumber)?;
+        let tens = number
+            .checked_mul(u64::from(radix))
+            .ok_or(NumberError::TooLarge)?;
+        number = tens
+            .checked_add(u64::from(worth))
+            .ok_or(NumberError::TooLarge)?;
+    }
+    Ok(number)
 }
 
-// A decimal number.
-pub fn decimal(s: &[u8]) -> Number {
-    if s.len() == 0 {
-        return Number::Not;
+// The digits of a hexadecimal number, behind its 0x.
+fn behind_prefix(word: &[u8]) -> Option<&[u8]>
+    ensures prefix { is_some result ≡ is_prefixed word.now }
+    ensures digits { IfSome result (λ digits. digits.now ≡ drop 2 word.now) }
+{
+    match word {
+        [b'0', b'x' | b'X', digits @ ..] => Some(digits),
+        _ => None,
     }
-    let mut v: u64 = 0;
-    let mut i: usize = 0;
-    while i < s.len() {
-        let d = digit(s[i]);
-        if 10 <= d {
-            return Number::Not;
-        }
-        if 1844674407370955161 < v {
-            return Number::Large;
-        }
-        if 18446744073709551615 - v * 10 < d {
-            return Number::Large;
-        }
-        v = v * 10 + d;
-        i += 1;
-    }
-    Number::Is(v)
-}
-
-// A hexadecimal number, without 0x.
-pub fn hexadecimal(s: &[u8]) -> Number {
-    if s.len() == 0 {
-        return Number::Not;
-    }
-    let mut v: u64 = 0;
-    let mut i: usize = 0;
-    while i < s.len() {
-        let d = digit(s[i]);
-        if d == 16 {
-            return Number::Not;
-        }
-        if 1152921504606846975 < v {
-            return Number::Large;
-        }
-        v = v * 16 + d;
-        i += 1;
-    }
-    Number::Is(v)
 }
 
 // Whether a word begins as a hexadecimal number does.
-pub fn is_hexadecimal(s: &[u8]) -> bool {
-    if slice::byte_at(s, 0) != b'0' {
-        return false;
-    }
-    match slice::byte_at(s, 1) {
-        b'x' | b'X' => true,
-        _ => false,
-    }
+pub fn is_hexadecimal(word: &[u8]) -> bool
+    ensures { result ≡ is_prefixed word.now }
+{
+    behind_prefix(word).is_some()
 }
 
 // A number in either form.
-pub fn parse(s: &[u8]) -> Number {
-    if is_hexadecimal(s) {
-        return hexadecimal(slice::between(s, 2, s.len()));
+pub fn parse(word: &[u8]) -> Result<u64, NumberError>
+    ensures value { ParsesUpTo (2 ^ 64 - 1) (radix_of word.now) (digits_of word.now) result }
+    ensures not_a_number { result ≡ Err NumberError.NotANumber → ¬ IsNumeral (radix_of word.now) (digits_of word.now) }
+    ensures too_large { result ≡ Err NumberError.TooLarge → 2 ^ 64 ≤ digits_value (radix_of word.now) (digits_of word.now) }
+{
+    match behind_prefix(word) {
+        Some(digits) => of_digits(digits, 16),
+        None => of_digits(word, 10),
     }
-    decimal(s)
 }

@@ -3,15 +3,18 @@
 // Printed as they are: characters from the blank on but quotation mark, backslash and delete; of more bytes, those that Unicode has but the
 // control characters. All other bytes are escaped: \" \\ \n \r \t, or \x and two hexadecimal digits.
 
-ghost use Rattle.std.specs.Prelude.{◌<◌, ◌≤◌, ◌+◌, length};
+ghost use Rattle.std.specs.Prelude.{◌≡◌, ◌≤◌, ◌<◌, length, max, vec_len};
+ghost use Rattle.std.specs.Io.{StartsWith};
 
-use super::{number, say, slice};
+use std::alloc::AllocFailed;
+use std::io;
+use std::io::Write;
 
 // How many bytes a character has that begins with a byte; 1 where none begins so.
-fn width(b: u8) -> usize
+fn width(first: u8) -> usize
     ensures { (1 ≤ result) × (result ≤ 4) }
 {
-    match b {
+    match first {
         0xC2..=0xDF => 2,
         0xE0..=0xEF => 3,
         0xF0..=0xF4 => 4,
@@ -20,7 +23,9 @@ fn width(b: u8) -> usize
 }
 
 // Whether a character is printed as it is: by its first byte, and where that leaves it open by its second.
-fn is_plain(first: u8, second: u8) -> bool {
+fn is_plain(character: &[u8]) -> bool {
+    let first = character.first().copied().unwrap_or(0);
+    let second = character.get(1).copied().unwrap_or(0);
     match first {
         0x20..=0x21 | 0x23..=0x5B | 0x5D..=0x7E => true,
         0xC2 | 0xE0 => 0xA0 <= second,
@@ -32,181 +37,97 @@ fn is_plain(first: u8, second: u8) -> bool {
     }
 }
 
-// Where the character ends that begins at a place, at most at the text's end.
-fn character_end(s: &[u8], at: usize) -> usize
-    requires { at < length s.now }
-    ensures { (at < result) × (result ≤ length s.now) }
-{
-    let n = width(s[at]);
-    if s.len() - at < n {
-        return s.len();
-    }
-    at + n
-}
-
-// The letter that stands for a byte behind a backslash; x of those that digits follow.
-fn letter(b: u8) -> u8 {
-    match b {
-        b'"' | b'\\' => b,
-        b'\n' => b'n',
-        b'\r' => b'r',
-        b'\t' => b't',
-        _ => b'x',
-    }
-}
-
 // A byte, escaped.
-fn escaped(fd: i32, b: u8) -> bool {
-    say::byte(fd, b'\\');
-    let c = letter(b);
-    if c == b'x' {
-        say::byte(fd, c);
-        return say::hex(fd, b as u64, 2);
+fn write_escaped<W: Write>(out: &mut W, byte: u8) -> io::Result<()> {
+    match byte {
+        b'"' => out.write_all(b"\\\""),
+        b'\\' => out.write_all(b"\\\\"),
+        b'\n' => out.write_all(b"\\n"),
+        b'\r' => out.write_all(b"\\r"),
+        b'\t' => out.write_all(b"\\t"),
+        _ => write!(out, "\\x{byte:02X}"),
     }
-    say::byte(fd, c)
 }
 
-// Bytes, each escaped.
-fn all_escaped(fd: i32, s: &[u8]) -> bool {
-    let mut i: usize = 0;
-    while i < s.len() {
-        if !escaped(fd, s[i]) {
-            return false;
-        }
-        i += 1;
+// A character, as it is or each of its bytes escaped.
+fn write_character<W: Write>(out: &mut W, character: &[u8]) -> io::Result<()> {
+    if is_plain(character) {
+        return out.write_all(character);
     }
-    true
-}
-
-// A character.
-fn character(fd: i32, s: &[u8]) -> bool {
-    if is_plain(slice::byte_at(s, 0), slice::byte_at(s, 1)) {
-        return io::write_all(fd, s);
+    for byte in character {
+        write_escaped(out, *byte)?;
     }
-    all_escaped(fd, s)
+    Ok(())
 }
 
-// The characters of a text.
-fn characters(fd: i32, s: &[u8]) -> bool {
-    let mut at: usize = 0;
-    while at < s.len() {
-        let end = character_end(s, at);
-        if !character(fd, slice::between(s, at, end)) {
-            return false;
-        }
-        at = end;
+// Writes a text in quotation marks.
+pub fn write<W: Write>(out: &mut W, text: &[u8]) -> io::Result<()> {
+    out.write_all(b"\"")?;
+    let mut rest = text;
+    while let Some(first) = rest.first() {
+        let (character, behind) = rest.split_at(width(*first).min(rest.len()));
+        write_character(out, character)?;
+        rest = behind;
     }
-    true
+    out.write_all(b"\"")
 }
 
-// Writes a text in quotation marks, and answers whether all was written.
-pub fn print(fd: i32, s: &[u8]) -> bool {
-    say::byte(fd, b'"');
-    characters(fd, s);
-    say::byte(fd, b'"')
-}
-
-// What a quotation is: so many bytes of text; a mark missing at its end; a backslash before what is no escape; or more than there is room for.
-#[derive(Clone, Copy)]
-pub enum Quoted {
-    Text(usize),
+// Why a quotation has no text: a mark is missing at its end; a backslash stands before what is no escape; or it is more than there is room for.
+#[derive(Clone, Copy, Debug, PartialEq, Eq)]
+pub enum QuoteError {
     Open,
     Escape,
-    Long,
+    TooLong,
+    OutOfMemory,
 }
 
-// A byte of a quotation: which, how many bytes stand for it, and whether those are fine.
-#[derive(Clone, Copy)]
-struct Part {
-    byte: u8,
-    used: usize,
-    is_fine: bool,
+impl<T: Drop> From<AllocFailed<T>> for QuoteError {
+    fn from(_why: AllocFailed<T>) -> QuoteError {
+        QuoteError::OutOfMemory
+    }
 }
 
-// The byte of two digits behind \x.
-fn hex_part(s: &[u8], at: usize) -> Part
-    requires { at < 100000 }
-    ensures { (1 ≤ result.used) × (result.used ≤ 4) }
+// The byte of two hexadecimal digits.
+fn byte_of(high: u8, low: u8) -> Option<u8> {
+    let high = char::from(high).to_digit(16)?;
+    let low = char::from(low).to_digit(16)?;
+    Some((high * 16 + low) as u8)
+}
+
+// The byte of an escape, behind its backslash, and what stands behind it.
+fn escape(text: &[u8]) -> Option<(u8, &[u8])>
+    ensures { (p : _) → result ≡ Some p → length p.1.now < length text.now }
 {
-    let high = number::digit(slice::byte_at(s, at + 2));
-    let low = number::digit(slice::byte_at(s, at + 3));
-    Part {
-        byte: (high % 16 * 16 + low % 16) as u8,
-        used: 4,
-        is_fine: high < 16 && low < 16,
+    match text {
+        [b'n', rest @ ..] => Some((b'\n', rest)),
+        [b'r', rest @ ..] => Some((b'\r', rest)),
+        [b't', rest @ ..] => Some((b'\t', rest)),
+        [b'x', high, low, rest @ ..] => Some((byte_of(*high, *low)?, rest)),
+        [mark @ (b'"' | b'\\'), rest @ ..] => Some((*mark, rest)),
+        _ => None,
     }
 }
 
-// The byte that a backslash stands before.
-fn escape_part(s: &[u8], at: usize) -> Part
-    requires { at < 100000 }
-    ensures { (1 ≤ result.used) × (result.used ≤ 4) }
+// Puts the text of a quotation, which begins with its mark, behind a content that may have at most so many bytes. Where there is none, the content
+// has a part of it.
+pub fn read(quotation: &[u8], content: &mut Vec<u8>, most: usize) -> Result<(), QuoteError>
+    ensures bound { vec_len content.new ≤ max most (vec_len content.old) }
+    ensures kept { StartsWith content.new.items content.old.items }
 {
-    let b = slice::byte_at(s, at + 1);
-    match b {
-        b'"' | b'\\' => Part {
-            byte: b,
-            used: 2,
-            is_fine: true,
-        },
-        b'n' => Part {
-            byte: b'\n',
-            used: 2,
-            is_fine: true,
-        },
-        b'r' => Part {
-            byte: b'\r',
-            used: 2,
-            is_fine: true,
-        },
-        b't' => Part {
-            byte: b'\t',
-            used: 2,
-            is_fine: true,
-        },
-        b'x' => hex_part(s, at),
-        _ => Part {
-            byte: b,
-            used: 2,
-            is_fine: false,
-        },
-    }
-}
-
-// The byte at a place of a quotation.
-fn part_at(s: &[u8], at: usize) -> Part
-    requires { at < 100000 }
-    ensures { (1 ≤ result.used) × (result.used ≤ 4) }
-{
-    let b = slice::byte_at(s, at);
-    if b == b'\\' {
-        return escape_part(s, at);
-    }
-    Part {
-        byte: b,
-        used: 1,
-        is_fine: true,
-    }
-}
-
-// Puts the text of a quotation, which begins with its mark, into `out`, and answers how many bytes it has.
-pub fn read(s: &[u8], out: &mut [u8]) -> Quoted {
-    let mut n: usize = 0;
-    let mut i: usize = 1;
-    while i < 100000 && i < s.len() {
-        if s[i] == b'"' {
-            return Quoted::Text(n);
+    let mut rest = quotation.get(1..).unwrap_or(&[]);
+    while let Some((first, behind)) = rest.split_first() {
+        if *first == b'"' {
+            return Ok(());
         }
-        if out.len() <= n {
-            return Quoted::Long;
+        if most <= content.len() {
+            return Err(QuoteError::TooLong);
         }
-        let part = part_at(s, i);
-        if !part.is_fine {
-            return Quoted::Escape;
-        }
-        out[n] = part.byte;
-        n += 1;
-        i += part.used;
+        let (byte, behind) = match first {
+            b'\\' => escape(behind).ok_or(QuoteError::Escape)?,
+            _ => (*first, behind),
+        };
+        content.push(byte)?;
+        rest = behind;
     }
-    Quoted::Open
+    Err(QuoteError::Open)
 }

@@ -1,80 +1,85 @@
 // The words of a line. Blanks stand between words; a word that would begin with # begins a comment; one that begins with a quotation mark
 // ends with the next that no backslash stands before.
 
-// A word's place in its line: from one byte up to another. Past the last word it is empty.
+ghost use Rattle.std.specs.Prelude.{◌+◌, ◌<◌, ◌≤◌, IfSome, length};
+ghost use Rattle.std.specs.Iterator.{at_most};
+
+// What is left of a line. A copy can look ahead.
 #[derive(Clone, Copy)]
-pub struct Word {
-    pub from: usize,
-    pub to: usize,
+pub struct Words<'a> {
+    rest: &'a [u8],
+}
+
+impl<'a> Words<'a> {
+    // All words of a line.
+    pub fn new(line: &'a [u8]) -> Words<'a> {
+        Words { rest: line }
+    }
+}
+
+impl<'a> Iterator for Words<'a> {
+    type Item = &'a [u8];
+
+    ghost remaining = { λ s. at_most (length s.rest.now) };
+
+    ghost next_gives = { λ s r t. IfSome r (λ word. (0 < length word.now) × (length word.now + length t.rest.now ≤ length s.rest.now)) };
+
+    fn next(&mut self) -> Option<&'a [u8]> {
+        let start = self.rest.iter().position(|b| !is_blank(*b))?;
+        let line = &self.rest[start..];
+        if line[0] == b'#' {
+            self.rest = &[];
+            return None;
+        }
+        let (word, rest) = line.split_at(word_len(line));
+        self.rest = rest;
+        Some(word)
+    }
 }
 
 // Whether a byte separates words.
 fn is_blank(b: u8) -> bool {
-    match b {
-        b' ' | b'\t' | b'\r' => true,
-        _ => false,
-    }
+    matches!(b, b' ' | b'\t' | b'\r')
 }
 
-// Where the next word begins, or the line's length.
-fn start(line: &[u8], at: usize) -> usize {
-    let mut i = at;
-    while i < line.len() {
-        let b = line[i];
-        if b == b'#' {
-            return line.len();
-        }
-        if !is_blank(b) {
-            return i;
-        }
-        i += 1;
+// How many bytes the word has that stands at a line's start.
+fn word_len(line: &[u8]) -> usize
+    requires { 1 ≤ length line.now }
+    ensures { (1 ≤ result) × (result ≤ length line.now) }
+{
+    if line[0] == b'"' {
+        return quotation_len(line);
     }
-    line.len()
+    let behind = &line[1..];
+    let more = behind
+        .iter()
+        .position(|b| is_blank(*b))
+        .unwrap_or(behind.len());
+    1 + more
 }
 
-// Where a word ends that begins at a place.
-fn end(line: &[u8], at: usize) -> usize {
-    let mut i = at;
-    while i < line.len() {
-        if is_blank(line[i]) {
-            return i;
-        }
-        i += 1;
-    }
-    line.len()
-}
-
-// Where a quotation ends that begins at a place.
-fn quoted_end(line: &[u8], at: usize) -> usize {
-    let mut i = at;
-    while i < line.len() {
-        let b = line[i];
-        i += 1;
-        if b == b'"' {
-            return i;
-        }
-        if b == b'\\' {
-            if i < line.len() {
-                i += 1;
-            }
+// How many bytes the quotation has that stands at a line's start: up to the next mark that no backslash stands before, or to the end.
+fn quotation_len(line: &[u8]) -> usize
+    requires { 1 ≤ length line.now }
+    ensures { (1 ≤ result) × (result ≤ length line.now) }
+{
+    let mut is_escaped = true;
+    for (i, b) in line.iter().enumerate() {
+        if is_escaped {
+            is_escaped = false;
+        } else if *b == b'"' {
+            return i + 1;
+        } else {
+            is_escaped = *b == b'\\';
         }
     }
     line.len()
 }
 
-// The next word at or behind a place.
-pub fn next(line: &[u8], at: usize) -> Word {
-    let from = start(line, at);
-    if from < line.len() {
-        if line[from] == b'"' {
-            return Word {
-                from: from,
-                to: quoted_end(line, from + 1),
-            };
-        }
-    }
-    Word {
-        from: from,
-        to: end(line, from),
-    }
+// What a word names, its letters in either case.
+pub fn named<T: Copy>(names: &[(&str, T)], word: &[u8]) -> Option<T> {
+    names
+        .iter()
+        .find(|(name, _)| name.as_bytes().eq_ignore_ascii_case(word))
+        .map(|(_, value)| *value)
 }
