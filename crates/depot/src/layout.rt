@@ -13,6 +13,9 @@ use wire::{header, number, part};
 // The form of the files.
 pub const FORM: Form = Form::One;
 
+// One byte more than an archive may have, which is one more than a message may have too. Of a longer file no more is read.
+pub const ROOM: usize = 65536;
+
 // The number of two bytes at a place, and 0 past the end.
 pub fn two_at(d: &[u8], at: usize) -> usize
     ensures { (result ≡ field_or at 2 d.now) × (result < 65536) }
