@@ -2,7 +2,7 @@
 
 ghost use Rattle.std.specs.Prelude.{◌≤◌, IfOk};
 
-use super::complaint::Complaint;
+use super::complaint::{Complaint, Of};
 use super::reason::Asked;
 use super::store::Adding;
 use std::alloc::Global;
@@ -10,25 +10,23 @@ use text::argument::Arguments;
 use text::number::NumberError;
 use text::{number, word};
 
-// The commands by their names.
+// What a command's name says of it.
 #[derive(Clone, Copy)]
 enum Name {
     List,
     Verify,
-    Take,
-    TakeLine,
-    Find,
-    FindLine,
+    Take { with_line: bool },
+    Find { with_line: bool },
     Add,
 }
 
 const NAMES: [(&str, Name); 7] = [
     ("list", Name::List),
     ("verify", Name::Verify),
-    ("take", Name::Take),
-    ("take-line", Name::TakeLine),
-    ("find", Name::Find),
-    ("find-line", Name::FindLine),
+    ("take", Name::Take { with_line: false }),
+    ("take-line", Name::Take { with_line: true }),
+    ("find", Name::Find { with_line: false }),
+    ("find-line", Name::Find { with_line: true }),
     ("add", Name::Add),
 ];
 
@@ -71,44 +69,31 @@ pub fn parse<'a>(alloc: Global, words: &'a [&'a [u8]]) -> Result<Command<'a>, Co
         (Some(Name::Verify), _) => Ok(Command::Verify {
             archives: &words[1..],
         }),
-        (Some(Name::Take), [word]) => by_number(archive, word, false),
-        (Some(Name::TakeLine), [word]) => by_number(archive, word, true),
-        (Some(Name::Find), [word]) => by_session(archive, word, false),
-        (Some(Name::FindLine), [word]) => by_session(archive, word, true),
-        (Some(Name::Add), [_, ..]) => match Adding::new(alloc, archive, rest) {
-            Ok(adding) => Ok(Command::Add(adding)),
-            Err(fault) => Err(fault.of(archive)),
-        },
+        (Some(Name::Take { with_line }), [word]) => Ok(Command::Message {
+            archive,
+            asked: by_number(word)?,
+            with_line,
+        }),
+        (Some(Name::Find { with_line }), [word]) => Ok(Command::Message {
+            archive,
+            asked: by_session(word)?,
+            with_line,
+        }),
+        (Some(Name::Add), [_, ..]) => Ok(Command::Add(Adding::new(alloc, archive, rest).of(
+            archive,
+        )?)),
         _ => Err(Complaint::Usage),
     }
 }
 
 // Asks for the message of a number.
-fn by_number<'a>(
-    archive: &'a [u8],
-    word: &'a [u8],
-    with_line: bool,
-) -> Result<Command<'a>, Complaint<'a>> {
-    let asked = Asked::Number(number_within(word, u64::MAX)?);
-    Ok(Command::Message {
-        archive,
-        asked,
-        with_line,
-    })
+fn by_number(word: &[u8]) -> Result<Asked, Complaint<'_>> {
+    Ok(Asked::Number(number_within(word, u64::MAX)?))
 }
 
 // Asks for the first message of a session.
-fn by_session<'a>(
-    archive: &'a [u8],
-    word: &'a [u8],
-    with_line: bool,
-) -> Result<Command<'a>, Complaint<'a>> {
-    let asked = Asked::Session(number_within(word, 65535)? as u16);
-    Ok(Command::Message {
-        archive,
-        asked,
-        with_line,
-    })
+fn by_session(word: &[u8]) -> Result<Asked, Complaint<'_>> {
+    Ok(Asked::Session(number_within(word, 65535)? as u16))
 }
 
 // The number that a word says, which has a most.

@@ -49,13 +49,6 @@ impl From<AllocError> for Fault {
     }
 }
 
-impl Fault {
-    // The same, said of a file.
-    pub fn of(self, name: &[u8]) -> Complaint<'_> {
-        Complaint::File { name, fault: self }
-    }
-}
-
 // What went wrong.
 #[derive(Drop)]
 pub enum Complaint<'a> {
@@ -66,6 +59,23 @@ pub enum Complaint<'a> {
     File { name: &'a [u8], fault: Fault },
     Output,
     Memory,
+}
+
+// An error turned into a complaint about a file.
+pub trait Of<T> {
+    fn of(self, name: &[u8]) -> Result<T, Complaint<'_>>;
+}
+
+impl<T, E: Into<Fault>> Of<T> for Result<T, E> {
+    fn of(self, name: &[u8]) -> Result<T, Complaint<'_>> {
+        match self {
+            Ok(value) => Ok(value),
+            Err(why) => Err(Complaint::File {
+                name,
+                fault: why.into(),
+            }),
+        }
+    }
 }
 
 impl<T: Drop> From<AllocFailed<T>> for Complaint<'_> {

@@ -19,7 +19,7 @@ mod store;
 
 use archive::open::Opening;
 use command::Command;
-use complaint::{Complaint, Fault};
+use complaint::{Complaint, Fault, Of};
 use layout::ROOM;
 use reason::Asked;
 use std::io::Write;
@@ -43,7 +43,7 @@ fn list<'a, R: Files + Input + AllocGlobal>(
     archive: &'a [u8],
     out: &mut impl Write,
 ) -> Result<(), Complaint<'a>> {
-    let (file, opening) = open(&mut Inputs::new(rt), archive).map_err(|fault| fault.of(archive))?;
+    let (file, opening) = open(&mut Inputs::new(rt), archive).of(archive)?;
     show::list(out, &file, opening).map_err(|_| Complaint::Output)
 }
 
@@ -56,11 +56,11 @@ fn verify<'a, R: Files + Input + AllocGlobal>(
 ) -> Result<(), Complaint<'a>> {
     let mut inputs = Inputs::new(rt);
     for archive in archives {
-        match open(&mut inputs, archive) {
+        match open(&mut inputs, archive).of(archive) {
             Ok((file, opening)) => show::verify(out, archive, &file, opening).map_err(
                 |_| Complaint::Output,
             )?,
-            Err(fault) => fault.of(archive).say(err),
+            Err(complaint) => complaint.say(err),
         }
     }
     Ok(())
@@ -75,12 +75,8 @@ fn take<'a, R: Files + Input + AllocGlobal>(
     out: &mut impl Write,
 ) -> Result<(), Complaint<'a>> {
     let mut inputs = Inputs::new(rt);
-    let file = inputs
-        .read_start(archive, ROOM)
-        .map_err(|why| Fault::System(why).of(archive))?;
-    let found = library::found(&file, asked).map_err(|refusal| Fault::Refused(refusal).of(
-        archive,
-    ))?;
+    let file = inputs.read_start(archive, ROOM).of(archive)?;
+    let found = library::found(&file, asked).of(archive)?;
     show::take(out, &file, found, with_line).map_err(|_| Complaint::Output)
 }
 

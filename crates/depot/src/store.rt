@@ -1,15 +1,15 @@
 // Adding files to an archive on disk. The new archive is written whole to a file of its own, which then takes the archive's name; that
 // file's name is the archive's with .new behind it, and whoever makes it is the only one who adds.
 
-use super::complaint::{Complaint, Fault};
+use super::complaint::{Complaint, Fault, Of};
 use super::layout::ROOM;
 use super::library;
 use std::alloc::Global;
-use std::fs;
 use std::fs::{OpenFile, OpenOptions, Permissions};
 use std::io::{ErrorKind, Input, Read, Write};
 use std::os::unix::fs::{MetadataExt, PermissionsExt};
 use std::rt::Files;
+use std::{fs, io};
 use text::file::Inputs;
 use text::{file, input};
 
@@ -24,10 +24,14 @@ struct Draft {
 
 impl Draft {
     // The archive of a name; one that is missing has no records.
-    fn open<R: Files>(rt: &R, alloc: Global, archive: &[u8]) -> Result<Draft, Fault> {
+    fn open<R: Files + AllocGlobal>(rt: &R, archive: &[u8]) -> Result<Draft, Fault> {
         match file::open(rt, archive) {
-            Ok(old) => Draft::read(alloc, old),
-            Err(why) if why.kind() == ErrorKind::NotFound => Draft::new(Vec::new(alloc), 0, None),
+            Ok(old) => Draft::read(rt.alloc(), old),
+            Err(why) if why.kind() == ErrorKind::NotFound => Draft::new(
+                Vec::new(rt.alloc()),
+                0,
+                None,
+            ),
             Err(why) => Err(Fault::System(why)),
         }
     }
@@ -65,13 +69,12 @@ impl Draft {
     }
 
     // Writes the closed archive to a file, gives that the mode of the old one and brings all of it to the disk.
-    fn store<F: Write + OpenFile>(&self, file: &mut F) -> Result<(), Fault> {
+    fn store<F: Write + OpenFile>(&self, file: &mut F) -> io::Result<()> {
         file.write_all(&self.bytes)?;
         if let Some(mode) = self.mode {
-            file.set_permissions(Permissions::from_mode(mode % 4096))?;
+            file.set_permissions(Permissions::from_mode(mode & 0o7777))?;
         }
-        file.sync_all()?;
-        Ok(())
+        file.sync_all()
     }
 }
 
@@ -126,29 +129,23 @@ impl<'a> Adding<'a> {
         rt: &R,
         new: &mut R::File,
     ) -> Result<(), Complaint<'_>> {
-        let mut draft = Draft::open(rt, rt.alloc(), self.archive).map_err(|fault| fault.of(
-            self.archive,
-        ))?;
+        let mut draft = Draft::open(rt, self.archive).of(self.archive)?;
         let mut inputs = Inputs::new(rt);
         for name in self.files {
-            draft
-                .add(&mut inputs, name)
-                .map_err(|fault| fault.of(name))?;
+            draft.add(&mut inputs, name).of(name)?;
         }
-        draft.close().map_err(|fault| fault.of(self.archive))?;
-        draft.store(new).map_err(|fault| fault.of(&self.new))
+        draft.close().of(self.archive)?;
+        draft.store(new).of(&self.new)
     }
 
     // Gives the new file the archive's name.
-    fn rename(&self, rt: &impl Files) -> Result<(), Fault> {
-        fs::rename(rt, file::name_of(&self.new)?, file::name_of(self.archive)?)?;
-        Ok(())
+    fn rename(&self, rt: &impl Files) -> io::Result<()> {
+        fs::rename(rt, file::name_of(&self.new)?, file::name_of(self.archive)?)
     }
 
     // Takes the new file off the disk.
-    fn remove(&self, rt: &impl Files) -> Result<(), Fault> {
-        fs::remove_file(rt, file::name_of(&self.new)?)?;
-        Ok(())
+    fn remove(&self, rt: &impl Files) -> io::Result<()> {
+        fs::remove_file(rt, file::name_of(&self.new)?)
     }
 
     // Makes the new file, fills it and gives it the archive's name; whatever fails is said, and leaves no new file. Nothing tells whether
@@ -158,14 +155,16 @@ impl<'a> Adding<'a> {
         rt: &R,
         err: &mut impl Write,
     ) -> Result<(), Complaint<'_>> {
-        let mut new = self.create(rt).map_err(|fault| fault.of(&self.new))?;
+        let mut new = self.create(rt).of(&self.new)?;
         let filled = self.fill(rt, &mut new);
         drop(new);
-        let renamed = filled.and_then(|()| self.rename(rt).map_err(|fault| fault.of(self.archive)));
-        if let Err(complaint) = renamed {
-            complaint.say(err);
-            self.remove(rt).map_err(|fault| fault.of(&self.new))?;
+        let renamed = filled.and_then(|()| self.rename(rt).of(self.archive));
+        match renamed {
+            Ok(()) => Ok(()),
+            Err(complaint) => {
+                complaint.say(err);
+                self.remove(rt).of(&self.new)
+            }
         }
-        Ok(())
     }
 }
