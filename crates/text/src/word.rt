@@ -15,11 +15,6 @@ impl<'a> Words<'a> {
     pub fn new(line: &'a [u8]) -> Words<'a> {
         Words { rest: line }
     }
-
-    // What stands behind the words that were taken.
-    pub fn rest(self) -> &'a [u8] {
-        self.rest
-    }
 }
 
 impl<'a> Iterator for Words<'a> {
