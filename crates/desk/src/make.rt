@@ -78,7 +78,7 @@ fn text_fits(kind: Kind, value: Value, content: &[u8]) -> bool {
     match (kind, value) {
         (Kind::Text, Value::Bytes { place, len }) => {
             let text = part::part_of(content, Part { at: place, len });
-            wire_text::text_fits(text, 0, text.len())
+            wire_text::text_fits(text)
         }
         _ => true,
     }

@@ -8,13 +8,13 @@ use payload::read::Reading;
 use std::io;
 use std::io::Write;
 use text::say::OrNone;
-use wire::verdict::{ReturnCode, Verdict};
+use wire::verdict::Verdict;
 
 // The first line: verdict, return code, place and count of skipped members, and the verdict in words. From 20 on a verdict has a place.
 fn write_verdict<W: Write>(out: &mut W, reading: &Reading) -> io::Result<()> {
     let verdict = reading.verdict;
     let number = verdict.number();
-    let code = OrNone(code_of(verdict));
+    let code = OrNone(verdict.return_code());
     write!(
         out,
         "verdict {number} code {code} place {} skipped {}",
@@ -66,12 +66,4 @@ pub fn datagram<W: Write>(out: &mut W, datagram: &[u8], sheet: &Sheet<'_>) -> io
         part::payload_part(datagram, answer.head),
     )?;
     Ok(answer.reading.verdict)
-}
-
-// Stub.
-fn code_of(verdict: Verdict) -> Option<u8> {
-    match verdict.return_code() {
-        ReturnCode::Code(code) => Some(code),
-        ReturnCode::None => None,
-    }
 }

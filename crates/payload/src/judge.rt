@@ -138,7 +138,7 @@ fn run_fits(cell: u64, place: usize, len: usize, content: &[u8]) -> bool
 {
     let k = table::kind_in(cell);
     if k == kind::STRING {
-        return text::text_fits(content, place, place + len);
+        return text::text_fits(&content[place..place + len]);
     }
     if k != kind::ARRAY {
         return false;

@@ -117,7 +117,7 @@ fn string_at(p: &[u8], cell: u64, i: usize, c: Span) -> Member
 {
     let from = c.from;
     let end = c.end;
-    if text::string_fits(p, from, end) {
+    if text::string_fits(&p[from..end]) {
         return Member::Leaf(spotted(i, (from + 3) as u64, end - from - 3, c));
     }
     Member::Bad(Verdict::Text, from)

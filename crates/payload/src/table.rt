@@ -102,8 +102,8 @@ fn packed(r: TypeRow) -> u64
     requires { FineRow r }
     ensures { result ≡ cell_of r }
 {
-    ((wide16(r.ident) * 16 + number::wide(r.level)) * 16 + number::wide(r.kind)) * 32
-        + number::wide(r.elem) * 2
+    ((wide16(r.ident) * 16 + u64::from(r.level)) * 16 + u64::from(r.kind)) * 32
+        + u64::from(r.elem) * 2
         + bit_of(r.required)
 }
 

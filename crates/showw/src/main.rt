@@ -8,31 +8,56 @@
 mod show;
 mod table_w;
 
+use std::alloc::Global;
+use std::fmt;
+use std::io::{Read, Write};
 use text::input;
-use text::input::Input;
-use text::say::ERR;
+use text::input::InputError;
 
-// Says what went wrong, where it can't be taken for an answer.
-fn complain(what: &[u8]) {
-    io::write_all(ERR, what);
+// The most bytes that a datagram has.
+const MOST: usize = 65535;
+
+// Why no datagram is shown.
+#[derive(Clone, Copy)]
+enum ShowError {
+    TooLong,
+    Unread,
+    Unwritten,
 }
 
-// Shows a datagram, and says so where the answer can't be written.
-fn show_datagram(d: &[u8]) {
-    if !show::reading(table_w::read_w(d), table_w::table_w()) {
-        complain(b"showw: cannot write standard output\n");
+impl fmt::Display for ShowError {
+    fn fmt<W: fmt::Write>(&self, f: &mut fmt::Formatter<W>) -> fmt::Result {
+        f.write_str(match self {
+            ShowError::TooLong =>
+                "the input is longer than 65535 bytes, the most that a datagram has",
+            ShowError::Unread => "cannot read standard input",
+            ShowError::Unwritten => "cannot write standard output",
+        })
     }
 }
 
-// The whole input is the datagram; the buffer has one byte more than a datagram, so that no input is cut.
+impl From<InputError> for ShowError {
+    fn from(why: InputError) -> ShowError {
+        match why {
+            InputError::TooLong => ShowError::TooLong,
+            InputError::Unread(_) => ShowError::Unread,
+        }
+    }
+}
+
+// Shows the datagram that is the whole of an input.
+fn show_datagram<S: Read + Drop, W: Write>(
+    alloc: Global,
+    source: S,
+    out: &mut W,
+) -> Result<(), ShowError> {
+    let datagram = input::read_whole(alloc, source, MOST)?;
+    let answer = table_w::read_w(&datagram);
+    show::write_answer(out, &answer, &table_w::table_w()).map_err(|_| ShowError::Unwritten)
+}
+
 fn main(rt: HostRuntime) {
-    let mut source = rt.stdin();
-    let mut buf = io::large_buffer();
-    match input::read_input(&mut source, &mut buf) {
-        Input::Bytes(n) => show_datagram(&buf[..n]),
-        Input::Long => complain(
-            b"showw: the input is longer than 65535 bytes, the most that a datagram has\n",
-        ),
-        Input::Failed => complain(b"showw: cannot read standard input\n"),
+    if let Err(why) = show_datagram(rt.alloc(), rt.stdin(), &mut rt.stdout()) {
+        let _ = eprintln!(rt; "showw: {why}");
     }
 }

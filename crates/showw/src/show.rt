@@ -1,79 +1,51 @@
-// An answer in the form of document 01: a line for the verdict, then one for each row. Each function answers whether all was written.
+// An answer in the form of document 01: a line for the verdict, then one for each row.
 
 use payload::read::Reading;
 use payload::row::{Row, Value};
 use payload::table::Table;
-use text::say;
-use text::say::OUT;
+use std::fmt::Display;
+use std::io::Write;
+use std::{fmt, io, iter};
+use text::say::OrNone;
 
-// Text as it stands.
-fn put(word: &[u8]) -> bool {
-    io::write_all(OUT, word)
-}
+// What a row shows. Floats are shown by their bits; table W has none.
+#[derive(Clone, Copy)]
+struct Shown(Row);
 
-// A word and a number.
-fn field(word: &[u8], n: u64) -> bool {
-    say::field(OUT, word, n)
-}
-
-// A signed number.
-fn signed(z: i64) -> bool {
-    put(b" signed ") && say::signed(OUT, z)
-}
-
-// A float's bits, in hexadecimal; table W has no float.
-fn float(word: &[u8], bits: u64, digits: usize) -> bool {
-    put(word) && io::print_hex(OUT, bits, digits)
-}
-
-// A run of bytes.
-fn run(place: usize, len: usize) -> bool {
-    field(b" bytes ", place as u64) && field(b" ", len as u64)
-}
-
-// What a row shows.
-fn shown(r: Row) -> bool {
-    let v = r.value;
-    match v {
-        Value::Absent => put(b" absent"),
-        Value::Unsigned(n) => field(b" unsigned ", n),
-        Value::Signed(z) => signed(z),
-        Value::Float32(_) => float(b" float32 ", r.bits, 8),
-        Value::Float64(_) => float(b" float64 ", r.bits, 16),
-        Value::Bytes { place, len } => run(place, len),
-        Value::Members => put(b" members"),
-    }
-}
-
-// A row's line: its number from 1 on, its Data ID, its value.
-fn row_line(nth: u64, ident: u16, r: Row) -> bool {
-    io::print_decimal(OUT, nth) && field(b" ", ident as u64) && shown(r) && put(b"\n")
-}
-
-// A line for each row of the table, whatever the verdict.
-fn rows(r: Reading, t: Table) -> bool {
-    let mut i: usize = 0;
-    while i < 64 && i < t.count {
-        let kind = t.rows[i];
-        if !row_line(i as u64 + 1, kind.ident, r.rows[i]) {
-            return false;
+impl Display for Shown {
+    fn fmt<W: fmt::Write>(&self, f: &mut fmt::Formatter<W>) -> fmt::Result {
+        let bits = self.0.bits;
+        match self.0.value {
+            Value::Absent => write!(f, "absent"),
+            Value::Unsigned(n) => write!(f, "unsigned {n}"),
+            Value::Signed(z) => write!(f, "signed {z}"),
+            Value::Float32(_) => write!(f, "float32 {bits:08x}"),
+            Value::Float64(_) => write!(f, "float64 {bits:016x}"),
+            Value::Bytes { place, len } => write!(f, "bytes {place} {len}"),
+            Value::Members => write!(f, "members"),
         }
-        i += 1;
     }
-    true
 }
 
 // The first line: verdict, return code, place and count of skipped members.
-fn first_line(r: Reading) -> bool {
-    let v = r.verdict;
-    field(b"verdict ", v.number() as u64)
-        && say::code(OUT, v.return_code())
-        && field(b" place ", r.place as u64)
-        && field(b" skipped ", r.skipped as u64)
-        && put(b"\n")
+fn write_verdict<W: Write>(out: &mut W, answer: &Reading) -> io::Result<()> {
+    let verdict = answer.verdict.number();
+    let code = OrNone(answer.verdict.return_code());
+    let place = answer.place;
+    let skipped = answer.skipped;
+    writeln!(
+        out,
+        "verdict {verdict} code {code} place {place} skipped {skipped}"
+    )
 }
 
-// An answer.
-pub fn reading(r: Reading, t: Table) -> bool {
-    first_line(r) && rows(r, t)
+// Writes an answer: behind its first line one for each row of the table, whatever the verdict, with the row's number from 1 on, its Data ID, its value.
+pub fn write_answer<W: Write>(out: &mut W, answer: &Reading, table: &Table) -> io::Result<()> {
+    write_verdict(out, answer)?;
+    let kinds = table.rows.iter().take(table.count);
+    for (i, (kind, row)) in kinds.zip(answer.rows.iter()).enumerate() {
+        let ident = kind.ident;
+        writeln!(out, "{} {ident} {}", i + 1, Shown(*row))?;
+    }
+    Ok(())
 }

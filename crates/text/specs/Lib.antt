@@ -1,1 +1,1 @@
-pub mod OldInput
+pub mod Number

@@ -38,9 +38,4 @@ impl Arguments {
     pub fn get(&self, i: usize) -> Option<&[u8]> {
         self.all.get(i)?.as_ref().map(|text| text.as_slice())
     }
-
-    // The number of the first argument that is too long.
-    pub fn first_too_long(&self) -> Option<usize> {
-        self.all.iter().position(|text| text.is_none())
-    }
 }

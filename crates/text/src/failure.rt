@@ -1,20 +1,20 @@
 // Calls of the system that failed, as text.
 
 use arrayvec::ArrayString;
+use std::fmt;
 use std::fmt::Write;
 use std::io::Error;
-use std::{fmt, io};
 
 // The most bytes of an error as text. The system's reasons are far shorter.
 const ROOM: usize = 256;
 
 // The system's error for a descriptor that is not open.
-pub fn not_open() -> Error {
+pub(crate) fn not_open() -> Error {
     Error::from_raw_os_error(9)
 }
 
 // The system's error for a name that is no text.
-pub fn no_text() -> Error {
+pub(crate) fn no_text() -> Error {
     Error::from_raw_os_error(84)
 }
 
@@ -32,10 +32,4 @@ impl fmt::Display for Reason<'_> {
             .map_or(all, |(reason, _)| reason);
         f.write_str(reason)
     }
-}
-
-// Writes a line: what failed, as the caller names it, a colon and the system's reason.
-pub fn write_line<W: io::Write>(out: &mut W, what: &[u8], error: &Error) -> io::Result<()> {
-    out.write_all(what)?;
-    writeln!(out, ": {}", Reason(error))
 }

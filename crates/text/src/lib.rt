@@ -11,7 +11,6 @@ pub mod failure;
 pub mod file;
 pub mod input;
 pub mod number;
-pub mod old;
 pub mod quote;
 pub mod say;
 pub mod word;

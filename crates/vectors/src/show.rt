@@ -10,7 +10,7 @@ use payload::table::Table;
 use payload::write::Written;
 use wire::number;
 use wire::part::Part;
-use wire::verdict::{ReturnCode, Verdict};
+use wire::verdict::Verdict;
 
 // A word and a number.
 fn field(word: &[u8], n: u64) {
@@ -22,10 +22,10 @@ fn field(word: &[u8], n: u64) {
 fn verdict(v: Verdict) {
     field(b"\nverdict ", v.number() as u64);
     match v.return_code() {
-        ReturnCode::Code(c) => {
+        Some(c) => {
             field(b" code ", c as u64);
         }
-        ReturnCode::None => {
+        None => {
             io::write_all(1, b" code none");
         }
     }

@@ -1,6 +1,11 @@
 -- `payload::judge::run_fits` meets its contract, answer by answer.
 use mathlib.Core.Path.{◌≡◌, sym, ap, ◌∙◌}
+use mathlib.Core.List.{List}
+use Prim.Native.Nat.{ℕ, ◌+◌}
+use native.Mathlib.Omega.{arith}
 use Rattle.wire.specs.Kind.{size_of}
+use Rattle.wire.specs.Text.{text_fits}
+use Rattle.wire.proofs.PartLaws.{cut_slice}
 use Rattle.payload.specs.Cells.{elem_in, row_in}
 use Rattle.wire.proofs.KindLaws.{number_some}
 use Rattle.payload.proofs.Writing.ValueLaws.{run_text, run_other, run_array}
@@ -10,7 +15,7 @@ pub returns-then-k-eq-STRING : goal.returns-then-k-eq-STRING
 returns-then-k-eq-STRING c =
     let a = c.args in
     run_text a.content.now (row_in a.cell) a.place a.len (sym c.kind_in-k.ensures ∙ c.if-k-eq-STRING.true) _
-    c.text_fits.ensures
+    (c.text_fits.ensures ∙ ap (λ (l : List ℕ). text_fits l) (cut_slice a.place (a.place + a.len) a.content.now (omega arith)))
 
 pub returns-then-k-ne-ARRAY : goal.returns-then-k-ne-ARRAY
 returns-then-k-ne-ARRAY c =

@@ -1,9 +1,0 @@
--- `text::list::start_of` is safe and ends within the list. The measure is the number of words that are left.
-use Rattle.std.proofs.Common.{length, ◌≤◌}
-use Rattle.text.proofs.old.list.start_of.Given as goal
-
-abbrev pub invariant-loop-left : goal.invariant-loop-left
-invariant-loop-left l = l.at ≤ length l.list
-
-abbrev pub decreases-loop-left : goal.decreases-loop-left
-decreases-loop-left l = l.left

@@ -1,9 +1,0 @@
--- `text::quote::all_escaped` is safe and ends. The loop's invariant: i is at most the text's length.
-use Rattle.std.proofs.Common.{length, ◌-◌, ◌≤◌}
-use Rattle.text.proofs.old.quote.all_escaped.Given as goal
-
-abbrev pub invariant-loop-i : goal.invariant-loop-i
-invariant-loop-i l = l.i ≤ length l.s
-
-abbrev pub decreases-loop-i : goal.decreases-loop-i
-decreases-loop-i l = length l.s - l.i
