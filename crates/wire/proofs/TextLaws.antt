@@ -50,24 +50,33 @@ pub text_one : (x : ℕ) (xs : List ℕ) → plain x ≡ true → text_fits (x �
 unfolding text_from
 text_one x xs e = let z : following x ≡ 0 = eqb-true (following x) 0 e in rw z
 
--- as many as the text begins with
-pub plain_passed : (xs : List ℕ) → text_fits xs ≡ text_fits (drop (position_or_len (λ x. not (plain x)) xs) xs)
-plain_passed [] = refl
-plain_passed (x ∷ xs) = go (plain x) refl (plain_passed xs)
+-- as many as the first k begin with
+plain_passed : (k : ℕ) (xs : List ℕ) → text_fits xs ≡ text_fits (drop (position_or_len (λ x. not (plain x)) (take k xs)) xs)
+plain_passed zero xs = refl
+plain_passed (suc k) [] = refl
+plain_passed (suc k) (x ∷ xs) = go (plain x) refl (plain_passed k xs)
   where
     n : ℕ
-    n = position_or_len (λ x. not (plain x)) xs
+    n = position_or_len (λ x. not (plain x)) (take k xs)
 
     go : (b : Bool) → plain x ≡ b → text_fits xs ≡ text_fits (drop n xs) → text_fits (x ∷ xs) ≡ text_fits (drop (cond (not (not b)) (1 + n) 0) (x ∷ xs))
     go true e h = text_one x xs e ∙ h ∙ rw one-add
     go false e h = refl
 
-pub position_is : (p : ℕ → Bool) (xs : List ℕ) → unwrap_or (position p xs) (length xs) ≡ position_or_len p xs
+position_is : (p : ℕ → Bool) (xs : List ℕ) → unwrap_or (position p xs) (length xs) ≡ position_or_len p xs
 position_is p xs = go (ltb (position_or_len p xs) (length xs)) refl
   where
     go : (b : Bool) → ltb (position_or_len p xs) (length xs) ≡ b → unwrap_or (cond b (Some (position_or_len p xs)) None) (length xs) ≡ position_or_len p xs
     go true e = refl
     go false e = omega (arith, ltb-false (position_or_len p xs) (length xs) e, prefix_len-le-length (λ x. not (p x)) xs)
+
+pub passed_at : (k : ℕ) (xs first : List ℕ) (r : Option ℕ) (n : ℕ) → first ≡ take k xs → r ≡ position (λ x. not (plain x)) first
+    → unwrap_or r (length first) ≡ n → text_fits xs ≡ text_fits (drop n xs)
+passed_at k xs first r n e p d =
+    let at : position_or_len (λ x. not (plain x)) (take k xs) ≡ n =
+    ap (position_or_len (λ x. not (plain x))) (sym e)
+    ∙ sym (position_is (λ x. not (plain x)) first) ∙ ap (λ (o : Option ℕ). unwrap_or o (length first)) (sym p) ∙ d in
+    plain_passed k xs ∙ ap (λ (j : ℕ). text_fits (drop j xs)) at
 
 module _ (x : ℕ) (xs : List ℕ) where
   pub text_bad : following x ≡ 4 → text_fits (x ∷ xs) ≡ false

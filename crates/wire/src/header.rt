@@ -30,6 +30,7 @@ pub const LEN: usize = 16;
 pub const VERSION: u8 = 1;
 
 // The number of the two bytes at a place. For the library's own crates: they have looked that the bytes are there.
+#[tactic(auto, unfolding(crate::specs::Header::field_at))]
 pub fn two_at(d: &[u8], at: usize) -> u16
     requires { at + 2 ≤ length d.now }
     ensures { result ≡ field_at at 2 d.now }

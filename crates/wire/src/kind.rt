@@ -3,6 +3,7 @@
 ghost use Rattle.std.specs.Prelude.{◌≡◌, ◌≤◌, ◌<◌};
 ghost use Rattle.wire.specs.Kind.{kind_at, size_of, wire_fits};
 
+// Numbers and no enum: a type row has its kind as a number, and `payload::table::table_fits` finds a wrong one, with verdict 1.
 pub const BOOLEAN: usize = 1;
 
 pub const STRING: usize = 12;
@@ -18,6 +19,7 @@ pub struct Kind {
     pub wire: u8,
 }
 
+// The table of `kinds` in specs/Kind.antt, entry by entry: 0 stays for a size that is told, for the definition has it so.
 pub const KINDS: [Kind; 15] = [
     Kind { size: 0, wire: 8 },
     Kind { size: 1, wire: 0 },
@@ -37,6 +39,7 @@ pub const KINDS: [Kind; 15] = [
 ];
 
 // The entry of a kind. For the library's own crates: a checked table has no other kind.
+#[tactic(auto, using(crate::proofs::KindLaws::get_d_default))]
 pub fn kind_at(k: usize) -> Kind
     requires { k < 15 }
     ensures { result ≡ kind_at k }
@@ -45,6 +48,7 @@ pub fn kind_at(k: usize) -> Kind
 }
 
 // A kind's bytes. For the library's own crates, as the entry is.
+#[tactic(auto, using(crate::proofs::KindLaws::size_small))]
 pub fn size_of(k: usize) -> usize
     requires { k < 15 }
     ensures { (result ≡ size_of k) × (result ≤ 8) }

@@ -48,20 +48,16 @@ pub fn signed_of(v: u64, h: u64) -> i64
 pub fn twos_of(z: i64) -> u64
     ensures { result ≡ twos_of 8 z }
 {
-    if z < 0 {
-        let up = -1 - z;
-        18446744073709551615 - (up as u64)
-    } else {
-        z as u64
-    }
+    z.cast_unsigned()
 }
 
-// The float of four bytes. A NaN's pattern gives a NaN: `from_bits` is not defined there.
+// The float of four bytes. A NaN's pattern gives a NaN: `from_bits` is not defined there. With the next a pair and no trait: a trait's two
+// impls would have these bodies, each with its own type, bits and largest pattern.
 pub fn float32_of(bits: u32) -> f32
     ensures { result ≡ of_bits binary32 bits }
 {
     if 2139095040 < bits % 2147483648 {
-        0.0 / 0.0
+        f32::NAN
     } else {
         f32::from_bits(bits)
     }
@@ -72,7 +68,7 @@ pub fn float64_of(bits: u64) -> f64
     ensures { result ≡ of_bits binary64 bits }
 {
     if 9218868437227405312 < bits % 9223372036854775808 {
-        0.0 / 0.0
+        f64::NAN
     } else {
         f64::from_bits(bits)
     }
