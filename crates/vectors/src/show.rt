@@ -47,12 +47,13 @@ impl fmt::Display for Shown {
         let bits = self.0.bits;
         match self.0.value {
             Value::Float32(x) => {
-                let other = if is_float32(x, bits) { "" } else { " other" };
-                return write!(f, "float32 {bits:08x}{other}");
+                let same = number::float32_of((bits & 0xffff_ffff) as u32);
+                let word = other(f64::from(x), f64::from(same));
+                return write!(f, "float32 {bits:08x}{word}");
             }
             Value::Float64(x) => {
-                let other = if is_float64(x, bits) { "" } else { " other" };
-                return write!(f, "float64 {bits:016x}{other}");
+                let word = other(x, number::float64_of(bits));
+                return write!(f, "float64 {bits:016x}{word}");
             }
             Value::Absent => f.write_str("absent"),
             Value::Unsigned(n) => write!(f, "unsigned {n}"),
@@ -67,15 +68,13 @@ impl fmt::Display for Shown {
     }
 }
 
-// Whether a float is that of the low four bytes of these bits, a NaN and a zero's sign included.
-fn is_float32(x: f32, bits: u64) -> bool {
-    let same = number::float32_of((bits & 0xffff_ffff) as u32);
-    num::f32_to_bits_with_nan(x) == num::f32_to_bits_with_nan(same)
-}
-
-// The same of the wider float. The two share no code but the comparison: each step is another function of the library.
-fn is_float64(x: f64, bits: u64) -> bool {
-    num::f64_to_bits_with_nan(x) == num::f64_to_bits_with_nan(number::float64_of(bits))
+// A word where two floats differ, a NaN and a zero's sign included.
+fn other(x: f64, y: f64) -> &'static str {
+    if num::f64_to_bits_with_nan(x) == num::f64_to_bits_with_nan(y) {
+        ""
+    } else {
+        " other"
+    }
 }
 
 // The answer to a payload.
@@ -108,8 +107,7 @@ pub fn message<W: Write>(m: &MessageReading, room: u8, out: &mut W) -> io::Resul
         }
     };
     writeln!(out, "payload {} rest {}", place(h.payload), place(h.rest))?;
-    let set = r.rows.iter().take(r.filled);
-    let mut set = set.copied();
+    let mut set = r.rows.iter().take(r.filled).copied();
     for i in 1..=room {
         let row = set.next().unwrap_or_else(|| lent::lent_row(i));
         writeln!(out, "{i} {}", Shown(row))?;
