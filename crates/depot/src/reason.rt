@@ -183,16 +183,15 @@ fn of_index(file: &[u8], size: usize)
 // Why a file gets 52.
 fn of_records(file: &[u8]) {
     let t = layout::trailer_of(file);
-    let w = records::walk(file, t.size);
-    if !w.whole {
+    let Some(count) = records::walk(file, t.size) else {
         of_walk(file, t.size);
         return;
-    }
-    if w.count != t.entries {
+    };
+    if count != t.entries {
         phrase::line(
             ERR,
             phrase::OTHER_COUNT,
-            &[t.entries as u64, w.count as u64],
+            &[t.entries as u64, count as u64],
         );
         return;
     }
@@ -239,10 +238,10 @@ fn needed(file: &[u8], told: usize, m: &[u8]) -> u64 {
     if 65535 < m.len() {
         return 0;
     }
-    let w = records::walk(file, told);
-    if 65535 < w.count {
+    let count = records::walk(file, told).unwrap_or(0);
+    if 65535 < count {
         return 0;
     }
     let size = told + form::LENGTH_LEN + m.len();
-    (size + layout::index_size(w.count + 1) + form::TRAILER_LEN) as u64
+    (size + layout::index_size(count + 1) + form::TRAILER_LEN) as u64
 }
