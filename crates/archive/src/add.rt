@@ -48,6 +48,7 @@ fn is_full(f: Form, room: usize, size: usize, n: usize) -> bool
 }
 
 // A message's record at `at`.
+#[tactic(auto, using(crate::proofs::AddLaws::record_stores))]
 fn put_record(file: &mut [u8], at: usize, m: &[u8])
     requires { at + (2 + length m.now) ≤ length file.old }
     ensures { file.new ≡ sets file.old at (record_bytes m.now) }
@@ -84,7 +85,8 @@ pub fn add(file: &mut [u8], told: usize, m: &[u8]) -> Kept
     answer(added(file, told, m))
 }
 
-// The index of the records before `size`, stored behind them: each record's offset and Session ID. It goes by the records' own sizes.
+// The index of the records before `size`, stored behind them: each record's offset and Session ID. A `while`, since no index is counted:
+// `at` steps by the records' own sizes.
 fn put_index(file: &mut [u8], f: Form, size: usize)
     requires { (is_whole (messages_to file.old size) ≡ true)
         × (size + entry_size f * length (listed (messages_to file.old size)) ≤ length file.old) }
@@ -104,6 +106,7 @@ fn put_index(file: &mut [u8], f: Form, size: usize)
 }
 
 // The trailer at `to`: the index's offset, the number of entries, the form number.
+#[tactic(auto, using(crate::proofs::AddLaws::trailer_stores))]
 fn put_trailer(file: &mut [u8], to: usize, f: Form, at: usize, n: usize)
     requires { to + 8 ≤ length file.old }
     ensures { file.new ≡ sets file.old to (trailer_bytes f at n) }

@@ -29,7 +29,7 @@ pub fn message_part(file: &[u8], found: Found) -> &[u8]
     part::part_of(file, found.message)
 }
 
-// A message that was found: its record's number from 1, and its part of the file.
+// A record that was found: its number from 1, and its message as a part of the file.
 #[derive(Clone, Copy)]
 struct Record {
     number: usize,
@@ -59,10 +59,7 @@ fn nth(file: &[u8], f: Form, index: Index, n: usize) -> Result<Record, Verdict>
     requires { Opened file.now f index.at index.entries }
     ensures { found_as result ≡ reading_by n (archive_of file.now) }
 {
-    if n == 0 {
-        return Err(Verdict::NoRecord);
-    }
-    if index.entries < n {
+    if n == 0 || index.entries < n {
         return Err(Verdict::NoRecord);
     }
     let entry = index.at + f.entry_size() * (n - 1);

@@ -55,7 +55,8 @@ fn entry_agrees(file: &[u8], f: Form, to: usize, at: usize) -> bool
         && header::two_at(file, to + w) == records::session_at(file, at).0
 }
 
-// Whether the entries from `size` to `end` are those of the records before `size`. The walk has found them whole, and as many.
+// Whether the entries from `size` to `end` are those of the records before `size`. The walk has found them whole, and as many. A `while`,
+// since no index is counted: `at` steps by the records' own sizes.
 fn index_agrees(file: &[u8], f: Form, size: usize, end: usize) -> bool
     requires { (is_whole (messages_to file.now size) ≡ true) × (size ≤ limit f)
         × (size + entry_size f * length (listed (messages_to file.now size)) ≡ end) × (end ≤ length file.now) }
@@ -79,13 +80,7 @@ fn checked(file: &[u8], f: Form, size: usize, n: usize, end: usize) -> Result<In
     ensures { result ≡ opened_by (checked file.now f (messages_to file.now size)) }
 {
     let count = records::walk(file, size).ok_or(Verdict::Records)?;
-    if count != n {
-        return Err(Verdict::Records);
-    }
-    if size + f.entry_size() * n != end {
-        return Err(Verdict::Records);
-    }
-    if !index_agrees(file, f, size, end) {
+    if count != n || size + f.entry_size() * n != end || !index_agrees(file, f, size, end) {
         return Err(Verdict::Records);
     }
     Ok(Index {
@@ -103,10 +98,9 @@ pub(crate) fn opened(file: &[u8]) -> Result<Index, Verdict>
     }
     let end = file.len() - form::TRAILER_LEN;
     let f = Form::One;
-    if u64::from(header::two_at(file, end + form::FORM_AT)) != f.number() {
-        return Err(Verdict::Trailer);
-    }
-    if f.limit() < file.len() {
+    if u64::from(header::two_at(file, end + form::FORM_AT)) != f.number()
+        || f.limit() < file.len()
+    {
         return Err(Verdict::Trailer);
     }
     let at = number::read_number(file, end, 4) as usize;

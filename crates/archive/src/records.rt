@@ -57,7 +57,8 @@ pub fn session_at(file: &[u8], at: usize) -> SessionId
     SessionId(header::two_at(file, at + form::LENGTH_LEN + header::SESSION_AT))
 }
 
-// How many records of messages the first `size` bytes of a file are, if they are nothing else. The walk goes by the records' own sizes.
+// How many records of messages the first `size` bytes of a file are, if they are nothing else. A `while`, since no index is counted: `at`
+// steps by the records' own sizes.
 pub fn walk(file: &[u8], size: usize) -> Option<usize>
     ensures { result ≡ walked_from 0 (messages_to file.now size) }
 {

@@ -106,3 +106,24 @@ fn number_within(word: &[u8], most: u64) -> Result<u64, Complaint<'_>>
         _ => Err(Complaint::Over { word, most }),
     }
 }
+
+#[cfg(test)]
+mod tests {
+    use super::{Command, parse, words};
+    use std::test::Fail;
+    use text::argument::Arguments;
+
+    #[test]
+    fn takes_the_words_of_a_command_line(rt: HostRuntime) -> Result<(), Fail> {
+        let arguments = Arguments::new(&rt, rt.alloc())?;
+        assert!(rt; words(rt.alloc(), &arguments).is_ok());
+        Ok(())
+    }
+
+    #[test]
+    fn understands_adding(rt: HostRuntime) -> Result<(), Fail> {
+        let line = [b"ADD".as_slice(), b"a".as_slice(), b"1".as_slice()];
+        assert!(rt; matches!(parse(rt.alloc(), &line), Ok(Command::Add(_))));
+        Ok(())
+    }
+}

@@ -3,7 +3,7 @@
 ghost use Rattle.std.specs.Prelude.{◌<◌};
 
 use super::layout;
-use super::layout::{FORM, Trailer};
+use super::layout::{FORM, ROOM, Trailer};
 use super::reason::{MessageFault, RecordFault, RecordsFault, TrailerFault};
 use super::record::{Record, Records};
 use archive::{form, records};
@@ -132,7 +132,9 @@ pub fn records_fault(file: &[u8]) -> Option<RecordsFault> {
 
 // How many bytes an archive would have with one message more behind the records of a file, which have `told` bytes.
 pub fn size_with(file: &[u8], told: usize, message: &[u8]) -> usize {
-    let entries = records::walk(file, told).count.saturating_add(1);
+    let entries = Records::before(file, told.min(ROOM))
+        .count()
+        .saturating_add(1);
     form::TRAILER_LEN
         .saturating_add(form::LENGTH_LEN)
         .saturating_add(told)

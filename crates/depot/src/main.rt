@@ -7,6 +7,9 @@
 
 #![tactic(auto)]
 
+ghost use Rattle.std.specs.Prelude.{◌≡◌, IfOk};
+ghost use Rattle.archive.specs.Opening.{archive_of, opening_by};
+
 mod command;
 mod complaint;
 mod diagnose;
@@ -31,7 +34,9 @@ use text::file::Inputs;
 fn open<R: Files + Input + AllocGlobal>(
     inputs: &mut Inputs<'_, R>,
     archive: &[u8],
-) -> Result<(Vec<u8>, Opening), Fault> {
+) -> Result<(Vec<u8>, Opening), Fault>
+    ensures { IfOk result (λ pair. pair.1 ≡ opening_by (archive_of pair.0.items)) }
+{
     let file = inputs.read_start(archive, ROOM)?;
     let opening = library::opened(&file)?;
     Ok((file, opening))

@@ -1,6 +1,9 @@
 // Adding files to an archive on disk. The new archive is written whole to a file of its own, which then takes the archive's name; that
 // file's name is the archive's with .new behind it, and whoever makes it is the only one who adds.
 
+ghost use Rattle.std.specs.Prelude.{◌≡◌, ◌++◌, ◌≤◌, IfOk, codes, length};
+ghost use Rattle.depot.specs.declared.store.TheConstants.{NAME_MOST};
+
 use super::complaint::{Complaint, Fault, Of};
 use super::layout::ROOM;
 use super::library;
@@ -91,11 +94,10 @@ pub struct Adding<'a> {
 
 impl<'a> Adding<'a> {
     // Adding to an archive that is a file by its name.
-    pub fn new(
-        alloc: Global,
-        archive: &'a [u8],
-        files: &'a [&'a [u8]],
-    ) -> Result<Adding<'a>, Fault> {
+    pub fn new(alloc: Global, archive: &'a [u8], files: &'a [&'a [u8]]) -> Result<Adding<'a>, Fault>
+        ensures name { IfOk result (λ adding. adding.new.items ≡ archive.now ++ codes ".new") }
+        ensures most { IfOk result (λ adding. length archive.now ≤ NAME_MOST) }
+    {
         if archive.is_empty() || archive == b"-".as_slice() || NAME_MOST < archive.len() {
             return Err(Fault::NoName);
         }

@@ -6,12 +6,14 @@ use Rattle.archive.specs.Form.{offset_width}
 use Rattle.archive.proofs.FormLaws.{width_most}
 use Rattle.archive.proofs.FindLaws.{shown_zero, shown_past, nth_entry, nth_there, nth_is}
 use Rattle.archive.proofs.find.nth.Goals as goal
+use Rattle.archive.proofs.find.nth.Goals.{then-n-eq0-via-then-n-eq0, then-n-eq0-via-else-n-eq0+then-index-n}
 
 pub returns-then-n-eq0 : goal.returns-then-n-eq0
-returns-then-n-eq0 c = shown_zero _ c.args.f _ _ c.requires _ c.if-n-eq0.true
-
-pub returns-then-index-n : goal.returns-then-index-n
-returns-then-index-n c = shown_past _ c.args.f _ _ c.requires _ c.if-index-n.true
+returns-then-n-eq0 c =
+    elim c.then-n-eq0.branch [
+      | then-n-eq0-via-then-n-eq0 w ↦ shown_zero _ c.args.f _ _ c.requires _ w.if-n-eq0.true
+      | then-n-eq0-via-else-n-eq0+then-index-n w ↦ shown_past _ c.args.f _ _ c.requires _ w.if-index-n.true
+    ]
 
 pub overflow_mul-entry : goal.overflow_mul-entry
 overflow_mul-entry c =

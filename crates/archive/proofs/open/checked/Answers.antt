@@ -9,6 +9,7 @@ use Rattle.archive.specs.Form.{entry_size}
 use Rattle.archive.proofs.ExitLaws.{given}
 use Rattle.archive.proofs.OpenLaws.{check_torn, check_count, check_end, check_told, check_index, check_all}
 use Rattle.archive.proofs.open.checked.Goals as goal
+use Rattle.archive.proofs.open.checked.Goals.{then-count-n-via-then-count-n, then-count-n-via-else-count-n+then-size-entry_size, then-count-n-via-else-count-n+else-size-entry_size+then-not-index_agrees}
 
 pub returns-in_err-count : goal.returns-in_err-count
 returns-in_err-count c =
@@ -19,7 +20,18 @@ returns-in_err-count c =
 
 pub returns-then-count-n : goal.returns-then-count-n
 returns-then-count-n c =
-    check_count _ (λ k. (c.type_inv.file k).fits) _ _ _ _ c.requires _ (sym c.in_ok-count.ensures.ok_part ∙ c.walk.ensures) c.if-count-n.true
+    let found = sym c.in_ok-count.ensures.ok_part ∙ c.walk.ensures in
+    elim c.then-count-n.branch [
+      | then-count-n-via-then-count-n w ↦
+          check_count _ (λ k. (c.type_inv.file k).fits) _ _ _ _ c.requires _ found w.if-count-n.true
+      | then-count-n-via-else-count-n+then-size-entry_size w ↦
+          check_end _ (λ k. (c.type_inv.file k).fits) _ _ _ _ c.requires _ found
+          w.if-count-n.false _ w.entry_size.ensures w.if-size-entry_size.true
+      | then-count-n-via-else-count-n+else-size-entry_size+then-not-index_agrees w ↦
+          check_index _ (λ k. (c.type_inv.file k).fits) _ _ _ _ c.requires _ found
+          w.if-count-n.false _ w.entry_size.ensures w.if-size-entry_size.false
+          _ w.index_agrees.ensures w.if-not-index_agrees.true
+    ]
 
 pub overflow_mul-entry_size : goal.overflow_mul-entry_size
 overflow_mul-entry_size c =
@@ -31,21 +43,10 @@ overflow_add-size c =
     let e : c.entry_size.result * c.args.n ≡ entry_size c.args.f * c.args.n = rw c.entry_size.ensures in
     omega (arith, c.requires.index_in)
 
-pub returns-then-size-entry_size : goal.returns-then-size-entry_size
-returns-then-size-entry_size c =
-    check_end _ (λ k. (c.type_inv.file k).fits) _ _ _ _ c.requires _ (sym c.in_ok-count.ensures.ok_part ∙ c.walk.ensures)
-    c.if-count-n.false _ c.entry_size.ensures c.if-size-entry_size.true
-
 pub index_agrees-requires : goal.index_agrees-requires
 index_agrees-requires c =
     check_told _ (λ k. (c.type_inv.file k).fits) _ _ _ _ c.requires _ (sym c.in_ok-count.ensures.ok_part ∙ c.walk.ensures)
     c.if-count-n.false _ c.entry_size.ensures c.if-size-entry_size.false
-
-pub returns-then-not-index_agrees : goal.returns-then-not-index_agrees
-returns-then-not-index_agrees c =
-    check_index _ (λ k. (c.type_inv.file k).fits) _ _ _ _ c.requires _ (sym c.in_ok-count.ensures.ok_part ∙ c.walk.ensures)
-    c.if-count-n.false _ c.entry_size.ensures c.if-size-entry_size.false
-    _ c.index_agrees.ensures c.if-not-index_agrees.true
 
 pub returns : goal.returns
 returns c =

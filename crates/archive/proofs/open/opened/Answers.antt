@@ -8,6 +8,7 @@ use Rattle.archive.specs.declared.form.Form.TheVariants.{One}
 use Rattle.archive.specs.Form.{form_number}
 use Rattle.archive.proofs.OpenLaws.{open_short, open_other, open_large, open_past, open_trailed, open_checked}
 use Rattle.archive.proofs.open.opened.Goals as goal
+use Rattle.archive.proofs.open.opened.Goals.{then-from-number-via-then-from-number, then-from-number-via-else-from-number+then-limit-file}
 
 -- a number that is not the one form's is no form's
 no_other : (v : ℕ) → (v ≡ form_number One → ⊥) → (f : Form) → v ≡ form_number f → ⊥
@@ -18,13 +19,14 @@ returns-then-file-lt-TRAILER_LEN c = open_short _ c.if-file-lt-TRAILER_LEN.true
 
 pub returns-then-from-number : goal.returns-then-from-number
 returns-then-from-number c =
-    open_other _ c.if-file-lt-TRAILER_LEN.false _ (c.from.ensures ∙ c.two_at.ensures)
-    (no_other _ (λ q. c.if-from-number.true (q ∙ sym c.number.ensures)))
-
-pub returns-then-limit-file : goal.returns-then-limit-file
-returns-then-limit-file c =
-    open_large _ c.if-file-lt-TRAILER_LEN.false _ (c.from.ensures ∙ c.two_at.ensures) One
-    (c.if-from-number.false ∙ c.number.ensures) _ c.limit.ensures c.if-limit-file.true
+    elim c.then-from-number.branch [
+      | then-from-number-via-then-from-number w ↦
+          open_other _ c.if-file-lt-TRAILER_LEN.false _ (c.from.ensures ∙ c.two_at.ensures)
+          (no_other _ (λ q. w.if-from-number.true (q ∙ sym c.number.ensures)))
+      | then-from-number-via-else-from-number+then-limit-file w ↦
+          open_large _ c.if-file-lt-TRAILER_LEN.false _ (c.from.ensures ∙ c.two_at.ensures) One
+          (w.if-from-number.false ∙ c.number.ensures) _ w.limit.ensures w.if-limit-file.true
+    ]
 
 pub overflow_mul-entry_size : goal.overflow_mul-entry_size
 overflow_mul-entry_size c =
