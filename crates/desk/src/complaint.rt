@@ -11,7 +11,7 @@ pub trait Fault {
 }
 
 // What is wrong with a file, or with one of its lines, which are counted from 1.
-#[derive(Clone, Copy)]
+#[derive(Drop)]
 pub struct Complaint<F> {
     line: Option<usize>,
     fault: F,

@@ -1,6 +1,6 @@
 // Files by what they have: a table, values, or a datagram as bytes or as hexadecimal digits.
 
-use super::complaint::Fault;
+use super::complaint::{Complaint, Fault};
 use super::hex;
 use std::alloc::AllocFailed;
 use std::io::Write;
@@ -72,6 +72,7 @@ impl Fault for FileFault {
     }
 }
 
+// There is no room for the bytes of digits.
 impl<T: Drop> From<AllocFailed<T>> for FileFault {
     fn from(_fault: AllocFailed<T>) -> FileFault {
         FileFault::OutOfMemory
@@ -83,13 +84,13 @@ pub fn read<R: Files + io::Input + AllocGlobal>(
     inputs: &mut Inputs<'_, R>,
     path: &[u8],
     content: Content,
-) -> Result<Vec<u8>, FileFault> {
-    inputs
-        .read_whole(path, content.most())
-        .map_err(|error| match error {
+) -> Result<Vec<u8>, Complaint<FileFault>> {
+    inputs.read_whole(path, content.most()).map_err(|error| {
+        Complaint::of_file(match error {
             InputError::TooLong => FileFault::Long(content),
             InputError::Unread(why) => FileFault::Unread(why),
         })
+    })
 }
 
 // The datagram of a file, which has its bytes, or has them as hexadecimal digits.
@@ -97,10 +98,12 @@ pub fn read_datagram<R: Files + io::Input + AllocGlobal>(
     inputs: &mut Inputs<'_, R>,
     path: &[u8],
     content: Content,
-) -> Result<Vec<u8>, FileFault> {
+) -> Result<Vec<u8>, Complaint<FileFault>> {
     let bytes = read(inputs, path, content)?;
     match content {
-        Content::Digits => hex::bytes_of(*bytes.allocator(), &bytes),
+        Content::Digits => {
+            hex::bytes_of(*bytes.allocator(), &bytes).map_err(|fault| Complaint::of_file(fault))
+        }
         _ => Ok(bytes),
     }
 }

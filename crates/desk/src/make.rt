@@ -1,6 +1,6 @@
 // A datagram from values: each row is looked at, so that a refusal names it; the writer then has the last word.
 
-use super::complaint::Fault;
+use super::complaint::{Complaint, Fault};
 use super::kind::Kind;
 use super::sheet::{NamedRow, Sheet};
 use super::values::Values;
@@ -27,6 +27,7 @@ pub enum Rule {
     Text,
 }
 
+// Behind the row's name.
 impl fmt::Display for Rule {
     fn fmt<W: fmt::Write>(&self, f: &mut fmt::Formatter<W>) -> fmt::Result {
         f.write_str(match self {
@@ -67,6 +68,7 @@ impl Fault for MakeFault<'_> {
     }
 }
 
+// There is no room for the message.
 impl From<AllocError> for MakeFault<'_> {
     fn from(_fault: AllocError) -> Self {
         MakeFault::OutOfMemory
@@ -137,8 +139,8 @@ fn header(values: &Values, sheet: &Sheet<'_>) -> Header {
     }
 }
 
-// The datagram of values.
-pub fn datagram<'t>(
+// The message of values, as the writer makes it once every row fits.
+fn message<'t>(
     alloc: Global,
     values: &Values,
     sheet: &Sheet<'t>,
@@ -159,4 +161,13 @@ pub fn datagram<'t>(
     }
     out.truncate(written.len);
     Ok(out)
+}
+
+// The datagram of the values of a file.
+pub fn datagram<'t>(
+    alloc: Global,
+    values: &Values,
+    sheet: &Sheet<'t>,
+) -> Result<Vec<u8>, Complaint<MakeFault<'t>>> {
+    message(alloc, values, sheet).map_err(|fault| Complaint::of_file(fault))
 }

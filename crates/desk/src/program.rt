@@ -53,9 +53,19 @@ impl<'a, R: Files + Input + AllocGlobal, O: Write, E: Write> Program<'a, R, O, E
         let _ = writeln!(self.err, "{text}");
     }
 
-    // Says what is wrong with a file, in the same way.
-    fn complain<F: Fault + Drop>(&mut self, path: &[u8], complaint: Complaint<F>) {
-        let _ = complaint.write(&mut self.err, path);
+    // What came of a file; where nothing did, what is wrong with it is said in the same way.
+    fn or_complain<T, F: Fault + Drop>(
+        &mut self,
+        path: &[u8],
+        came: Result<T, Complaint<F>>,
+    ) -> Option<T> {
+        match came {
+            Ok(value) => Some(value),
+            Err(complaint) => {
+                let _ = complaint.write(&mut self.err, path);
+                None
+            }
+        }
     }
 
     // The line that says which datagram follows, where there are several.
@@ -74,18 +84,15 @@ impl<'a, R: Files + Input + AllocGlobal, O: Write, E: Write> Program<'a, R, O, E
         sheet: &Sheet<'_>,
         tally: &mut Tally,
     ) -> io::Result<()> {
-        match files::read_datagram(&mut self.inputs, path, content) {
-            Ok(datagram) => {
-                if is_one_of_many {
-                    self.title(path)?;
-                }
-                tally.add(show::datagram(&mut self.out, &datagram, sheet)?);
-            }
-            Err(fault) => {
-                self.complain(path, Complaint::of_file(fault));
-                tally.add_unread();
-            }
+        let read = files::read_datagram(&mut self.inputs, path, content);
+        let Some(datagram) = self.or_complain(path, read) else {
+            tally.add_unread();
+            return Ok(());
+        };
+        if is_one_of_many {
+            self.title(path)?;
         }
+        tally.add(show::datagram(&mut self.out, &datagram, sheet)?);
         Ok(())
     }
 
@@ -112,28 +119,20 @@ impl<'a, R: Files + Input + AllocGlobal, O: Write, E: Write> Program<'a, R, O, E
         Ok(())
     }
 
+    // The datagram of the values in a file.
+    fn made(&mut self, path: &[u8], sheet: &Sheet<'_>) -> Option<Vec<u8>> {
+        let alloc = self.rt.alloc();
+        let read = files::read(&mut self.inputs, path, Content::Values);
+        let text = self.or_complain(path, read)?;
+        let values = self.or_complain(path, values::read(alloc, &text, sheet))?;
+        self.or_complain(path, make::datagram(alloc, &values, sheet))
+    }
+
     // Makes the datagram of the values in a file.
     fn make(&mut self, path: &[u8], sheet: &Sheet<'_>) -> io::Result<()> {
-        let text = match files::read(&mut self.inputs, path, Content::Values) {
-            Ok(text) => text,
-            Err(fault) => {
-                self.complain(path, Complaint::of_file(fault));
-                return Ok(());
-            }
-        };
-        let values = match values::read(self.rt.alloc(), &text, sheet) {
-            Ok(values) => values,
-            Err(complaint) => {
-                self.complain(path, complaint);
-                return Ok(());
-            }
-        };
-        match make::datagram(self.rt.alloc(), &values, sheet) {
-            Ok(datagram) => self.out.write_all(&datagram),
-            Err(fault) => {
-                self.complain(path, Complaint::of_file(fault));
-                Ok(())
-            }
+        match self.made(path, sheet) {
+            Some(datagram) => self.out.write_all(&datagram),
+            None => Ok(()),
         }
     }
 
@@ -152,13 +151,13 @@ impl<'a, R: Files + Input + AllocGlobal, O: Write, E: Write> Program<'a, R, O, E
 
     // Does what is asked under the table of a file.
     fn run_under(&mut self, command: Command, path: &[u8], arguments: &Arguments) {
-        let text = match files::read(&mut self.inputs, path, Content::Table) {
-            Ok(text) => text,
-            Err(fault) => return self.complain(path, Complaint::of_file(fault)),
+        let read = files::read(&mut self.inputs, path, Content::Table);
+        let Some(text) = self.or_complain(path, read) else {
+            return;
         };
-        let sheet = match table_file::read(self.rt.alloc(), &text) {
-            Ok(sheet) => sheet,
-            Err(complaint) => return self.complain(path, complaint),
+        let read = table_file::read(self.rt.alloc(), &text);
+        let Some(sheet) = self.or_complain(path, read) else {
+            return;
         };
         if self.follow(command, arguments, &sheet).is_err() {
             self.say("standard output cannot be written");

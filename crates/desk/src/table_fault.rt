@@ -23,6 +23,7 @@ pub enum TableFault<'a> {
     OutOfMemory,
 }
 
+// The words of the part's fault, or of the table's own.
 impl Fault for TableFault<'_> {
     fn write<W: Write>(&self, out: &mut W) -> io::Result<()> {
         match self {
@@ -50,6 +51,7 @@ impl Fault for TableFault<'_> {
     }
 }
 
+// A fault of a part of the line is one of the line.
 impl<'a> From<WordFault<'a>> for TableFault<'a> {
     fn from(fault: WordFault<'a>) -> TableFault<'a> {
         TableFault::Word(fault)
@@ -80,6 +82,7 @@ impl From<PlaceFault> for TableFault<'_> {
     }
 }
 
+// There is no room for a row more.
 impl<T: Drop> From<AllocFailed<T>> for TableFault<'_> {
     fn from(_fault: AllocFailed<T>) -> Self {
         TableFault::OutOfMemory

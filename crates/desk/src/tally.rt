@@ -7,7 +7,7 @@ use wire::verdict::Verdict;
 // The count of each verdict, in the order of their numbers, and of the files that could not be read.
 #[derive(Clone, Copy)]
 pub struct Tally {
-    counts: [(Verdict, u64); 23],
+    counts: [(Verdict, u64); verdict_word::COUNT],
     unread: u64,
 }
 

@@ -42,6 +42,7 @@ impl Fault for NumberFault<'_> {
     }
 }
 
+// A number that is no float is read as any other number of a line.
 impl<'a> From<WordFault<'a>> for NumberFault<'a> {
     fn from(fault: WordFault<'a>) -> NumberFault<'a> {
         NumberFault::Word(fault)
@@ -140,6 +141,7 @@ impl Fault for ValueFault<'_> {
     }
 }
 
+// A fault of a part of the line is one of the line.
 impl<'a> From<WordFault<'a>> for ValueFault<'a> {
     fn from(fault: WordFault<'a>) -> ValueFault<'a> {
         ValueFault::Word(fault)
@@ -152,6 +154,7 @@ impl<'a> From<NumberFault<'a>> for ValueFault<'a> {
     }
 }
 
+// There is no room for a value more, or for its content.
 impl From<AllocError> for ValueFault<'_> {
     fn from(_fault: AllocError) -> Self {
         ValueFault::OutOfMemory

@@ -3,8 +3,10 @@
 use std::fmt;
 use wire::verdict::Verdict;
 
-// The verdicts in the order of their numbers.
-pub const ALL: [Verdict; 23] = [
+// The verdicts in the order of their numbers, and how many there are.
+pub const COUNT: usize = 23;
+
+pub const ALL: [Verdict; COUNT] = [
     Verdict::Accepted,
     Verdict::Table,
     Verdict::Room,
