@@ -1,11 +1,11 @@
 -- Value rows as numbers: four to a row, one row behind the other.
 -- Assumes nothing.
 use mathlib.Core.Path.{◌≡◌, refl, sym, ap, ◌∙◌}
-use Prim.Native.Nat.{ℕ, zero, suc, ◌+◌, ◌-◌, ◌*◌, ◌≤◌, ◌<◌}
+use Prim.Native.Nat.{ℕ, zero, suc, ◌+◌, ◌*◌, ◌≤◌, ◌<◌}
 use native.Mathlib.Omega.{arith}
 use native.Mathlib.Numerals.{add-one}
-use mathlib.Core.List.{List, [], ◌∷◌, ◌++◌, append_assoc}
-use lib.ListN.{length, take, drop, get_or, length-append, length-drop}
+use mathlib.Core.List.{List, [], ◌∷◌, ◌++◌}
+use lib.ListN.{length, set, take, drop, get_or, length-append, length-drop}
 use lib.Seq.{sets, sets-eq, take-suc, take_at, drop_at, drop-append-add, drop-drop, length-take-le, get_or-take}
 use Rattle.payload.specs.declared.row.Row.{Row}
 use Rattle.payload.specs.declared.row.Value.{Value}
@@ -19,13 +19,12 @@ use Rattle.chudopolk.specs.Rows.{numbers_of, listed, four_of, flat}
 pub shown : (v w : Value) (bits : ℕ) (n : Numbers) → v ≡ w → n ≡ numbers_of w bits → n ≡ numbers_of v bits
 shown v w bits n h e = e ∙ ap (λ (u : Value). numbers_of u bits) (sym h)
 
--- the part of four numbers at `at`, stored over
-pub put_four : (l : List ℕ) (at : ℕ) (n : Numbers) (part : List ℕ) → at + 4 ≤ length l → part ≡ listed n
-    → take at l ++ (part ++ drop (at + 4 - at) (drop at l)) ≡ sets l at (listed n)
-put_four l at n part room e =
-    let four : at + 4 - at ≡ 4 = omega arith in
-    let rest : drop 4 (drop at l) ≡ drop (at + 4) l = drop-drop 4 at l in
-    rw (e, four, rest) (sym (append_assoc (take at l) (listed n) (drop (at + 4) l)) ∙ sym (sets-eq (listed n) l at room))
+pub stored_four : (l : List ℕ) (i a b c d : ℕ) → set (set (set (set l i a) (i + 1) b) (i + 2) c) (i + 3) d ≡ sets l i (a ∷ b ∷ c ∷ d ∷ [])
+stored_four l i a b c d =
+    let e1 : i + 1 ≡ suc i = omega arith in
+    let e2 : i + 2 ≡ suc (suc i) = omega arith in
+    let e3 : i + 3 ≡ suc (suc (suc i)) = omega arith in
+    rw (e1, e2, e3)
 
 -- ---- the numbers of rows
 

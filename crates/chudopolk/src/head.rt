@@ -85,12 +85,12 @@ fn code_number(c: Option<u8>) -> u32
 }
 
 // The answer to a reading.
-impl From<&MessageReading> for Answer {
+impl From<MessageReading> for Answer {
     ghost use Rattle.chudopolk.specs.Head.{answer_of};
 
-    ghost from_gives = { λ m a. a ≡ answer_of m.now };
+    ghost from_gives = { λ m a. a ≡ answer_of m };
 
-    fn from(m: &MessageReading) -> Answer {
+    fn from(m: MessageReading) -> Answer {
         let v = m.reading.verdict;
         let h = m.head;
         Answer {

@@ -50,8 +50,8 @@ pub extern "C" fn chudopolk_read_message(
     let t = table::table_of(form, types);
     let e = Expected::from(expected);
     let m = read::read_by_value(datagram, e, t, values.len() / rows::NUMBERS);
-    rows::put_rows(values, &m.reading.rows[..m.reading.filled]);
-    Answer::from(&m)
+    rows::put_rows(values, m.reading.rows, m.reading.filled);
+    Answer::from(m)
 }
 
 // Writes the message of a header and of lent value rows from the output's start. A refusal changes no byte.

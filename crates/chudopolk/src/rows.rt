@@ -1,6 +1,6 @@
 // Value rows as numbers.
 
-ghost use Rattle.std.specs.Prelude.{◌≡◌, ◌++◌, ◌+◌, ◌*◌, ◌≤◌, ◌<◌, length, drop};
+ghost use Rattle.std.specs.Prelude.{◌≡◌, ◌++◌, ◌+◌, ◌*◌, ◌≤◌, ◌<◌, length, take, drop};
 ghost use Rattle.std.proofs.lemmas.List.Edits.{sets};
 ghost use Rattle.payload.specs.Row.{plain as plain_row};
 ghost use Rattle.chudopolk.specs.Rows.{listed, flat, float32_row, row_at, lent_of, rows_of};
@@ -61,16 +61,20 @@ fn put_row(out: &mut [u64], at: usize, n: Numbers)
     requires { at + 4 ≤ length out.old }
     ensures { out.new ≡ sets out.old at (listed n) }
 {
-    out[at..at + NUMBERS].copy_from_slice(&[n.what, n.number, n.place, n.len]);
+    out[at] = n.what;
+    out[at + 1] = n.number;
+    out[at + 2] = n.place;
+    out[at + 3] = n.len;
 }
 
-// Stores the numbers of rows over the first of the lent ones; those beyond stay.
-pub fn put_rows(out: &mut [u64], rows: &[Row])
-    requires { 4 * length rows.now ≤ length out.old }
-    ensures { out.new ≡ flat rows.now ++ drop (4 * length rows.now) out.old }
+// Stores the numbers of the first n rows over the first of the lent ones; those beyond stay. The rows come by value: of a slice of them LLVM copies the
+// whole array once more, which takes some 400 instructions a message.
+pub fn put_rows(out: &mut [u64], rows: [Row; 64], n: usize)
+    requires { (n ≤ 64) × (length rows ≡ 64) × (4 * n ≤ length out.old) }
+    ensures { out.new ≡ flat (take n rows) ++ drop (4 * n) out.old }
 {
-    for (i, row) in rows.iter().enumerate() {
-        put_row(out, NUMBERS * i, Numbers::from(*row));
+    for i in 0..n {
+        put_row(out, NUMBERS * i, Numbers::from(rows[i]));
     }
 }
 

@@ -32,11 +32,7 @@ pub struct Form {
 fn mark_of(number: u64) -> Option<bool>
     ensures { SomeIff result (number ≤ 1) (eqb number 1) }
 {
-    match number {
-        0 => Some(false),
-        1 => Some(true),
-        _ => None,
-    }
+    (number <= 1).then_some(number == 1)
 }
 
 // The type row of the five numbers from 5 · i on; none where one of them is wild.

@@ -1,9 +1,7 @@
 use mathlib.Core.Path.{◌≡◌, ap, ◌∙◌}
-use Prim.Native.Nat.{◌*◌}
-use mathlib.Core.List.{List, ◌++◌}
-use Rattle.payload.specs.declared.row.Row.{Row}
-use lib.ListN.{length, drop}
-use lib.Seq.{take-length}
+use Prim.Native.Nat.{ℕ, ◌*◌, ◌<◌}
+use mathlib.Core.List.{◌++◌}
+use lib.ListN.{length, take, drop}
 use native.Mathlib.Omega.{arith}
 use Rattle.chudopolk.specs.Rows.{flat}
 use Rattle.chudopolk.proofs.RowLaws.{flat_none, flat_more}
@@ -16,10 +14,10 @@ pub loop-i-preserved : goal.loop-i-preserved
 loop-i-preserved c =
     let a = c.args in
     let loop = c.loop-i in
-    c.put_row.ensures ∙ flat_more a.rows.now a.out.now loop.out loop.i c.from.result c.loop-i-test.true (omega arith) loop.invariant c.from.ensures
+    let few : loop.i < length a.rows = omega (arith, c.requires.1) in
+    c.put_row.ensures ∙ flat_more a.rows a.out.now loop.out loop.i c.from.result few (omega arith) loop.invariant c.from.ensures
 
 pub returns : goal.returns
 returns c =
-    let a = c.args in
-    let done : c.loop-i.i ≡ length a.rows.now = omega arith in
-    rw done at c.loop-i.invariant ∙ ap (λ (rows : List Row). flat rows ++ drop (4 * length a.rows.now) a.out.now) (take-length a.rows.now)
+    let done : c.loop-i.i ≡ c.args.n = omega arith in
+    c.loop-i.invariant ∙ ap (λ (k : ℕ). flat (take k c.args.rows) ++ drop (4 * k) c.args.out.now) done

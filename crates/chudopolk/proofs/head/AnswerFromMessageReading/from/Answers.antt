@@ -1,6 +1,6 @@
--- `chudopolk::head::AnswerFromRefMessageReading::from` meets its contract.
+-- `chudopolk::head::AnswerFromMessageReading::from` meets its contract.
 use Rattle.chudopolk.specs.Head.{answer_is}
-use Rattle.chudopolk.proofs.head.AnswerFromRefMessageReading.from.Goals as goal
+use Rattle.chudopolk.proofs.head.AnswerFromMessageReading.from.Goals as goal
 
 pub returns : goal.returns
 unfolding answer_is
