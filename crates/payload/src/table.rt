@@ -5,9 +5,7 @@ ghost use Rattle.wire.specs.Choose.{and};
 ghost use Rattle.payload.specs.Table.{elem_fits, struct_fits, row_fits, level_most, width_fits, idents_differ, table_fits};
 ghost use Rattle.payload.specs.Cells.{cell_of, ident_in, level_in, kind_in, elem_in, required_in, row_in, table_in, FineRow, FineTable, search_at, Within, Stops, Checked, SoundTable};
 
-const ARRAY: u8 = 13;
-
-const STRUCT: u8 = 14;
+use wire::kind;
 
 // A type row: level 1 to 4, Data ID 0 to 4,095, kind 1 to 14, an array's element kind, and whether the row is required.
 #[derive(Clone, Copy)]
@@ -171,7 +169,7 @@ fn level_most(r: TypeRow) -> u8
     requires { r.level ≤ 4 }
     ensures { result ≡ level_most r }
 {
-    if r.kind == STRUCT {
+    if usize::from(r.kind) == kind::STRUCT {
         return r.level + 1;
     }
     r.level
@@ -182,7 +180,7 @@ fn elem_fits(r: TypeRow) -> bool
     requires { r.level ≤ 4 }
     ensures { result ≡ and (elem_fits r) (struct_fits r) }
 {
-    if r.kind == ARRAY {
+    if usize::from(r.kind) == kind::ARRAY {
         return matches!(r.elem, 1..=11);
     }
     r.elem == 0 && level_most(r) <= 4
