@@ -38,7 +38,8 @@ pub struct CheckedTable {
 }
 
 impl CheckedTable {
-    // The checked form of a table that keeps its rules.
+    // The checked form of a table that keeps its rules. A reading and a writing would each copy the cells once more where it is a call.
+    #[inline(always)]
     pub fn of(t: &Table) -> Option<CheckedTable>
         ensures { MatchOption result (table_fits t.now ≡ false) (λ c.
             (c.count ≡ t.now.count) × (c.width ≡ t.now.width) × Checked t.now c.cells true) }
