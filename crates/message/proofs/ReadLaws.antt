@@ -8,15 +8,14 @@ use mathlib.Core.Bool.{Bool, true, false}
 use mathlib.Core.List.{List}
 use lib.ListN.{length, take, drop}
 use lib.Seq.{slice}
-use lib.Dec.{ltb}
-use borrow.Author.Tests.{lt-ltb, le-ltb, ne_eqb}
+use lib.Dec.{ltb, eqb}
+use borrow.Author.Tests.{lt-ltb, le-ltb, ne_eqb, eqb-true, eqb-false}
 use Rattle.wire.specs.Choose.{pick}
 use Rattle.wire.specs.Verdict.{verdict_number}
-use Rattle.wire.proofs.VerdictLaws.{verdict_one}
 use Rattle.wire.proofs.PartLaws.{cut_slice}
 use Rattle.wire.specs.Header.{header_len, length_of, end_of}
 use Rattle.wire.specs.declared.verdict.Verdict.{Verdict}
-use Rattle.wire.specs.declared.verdict.Verdict.TheVariants.{Accepted, Table as NoTable, Room, Short, Length}
+use Rattle.wire.specs.declared.verdict.Verdict.TheVariants.{Table as NoTable, Room, Short, Length}
 use Rattle.payload.specs.declared.table.Table.{Table}
 use Rattle.payload.specs.declared.table.CheckedTable.{CheckedTable}
 use Rattle.payload.specs.Table.{table_fits}
@@ -28,7 +27,7 @@ use Rattle.message.specs.declared.read.Expected.{Expected}
 use Rattle.message.specs.declared.read.Head.{Head}
 use Rattle.message.specs.MessageType.{is_one}
 use Rattle.message.specs.Reading.{payload_of, head_at, unheaded, length_fails, header_verdict, headed_of, message_of}
-use Rattle.message.specs.Opening.{end_in, headed_in}
+use Rattle.message.specs.Opening.{header_is, end_in, headed_in}
 
 -- ---- where a message ends
 
@@ -96,14 +95,30 @@ module _ (d : List ℕ) (e : Expected) (t : Table) (room : ℕ) where
 
 -- ---- the header's verdict, then the payload's
 
+pub header_err : (v why : Verdict) → Err why ≡ header_is v → (why ≡ v) × (verdict_number v ≡ 0 → ⊥)
+header_err v why e = go (eqb (verdict_number v) 0) refl e
+  where
+    go : (b : Bool) → eqb (verdict_number v) 0 ≡ b → Err why ≡ pick b (Ok (tt {0})) (Err v) → (why ≡ v) × (verdict_number v ≡ 0 → ⊥)
+    go true eb e = absurd (cc)
+    go false eb e = (cc, eqb-false (verdict_number v) 0 eb)
+
+pub header_ok : (v : Verdict) (u : Unit {0}) → Ok u ≡ header_is v → verdict_number v ≡ 0
+header_ok v u e = go (eqb (verdict_number v) 0) refl e
+  where
+    go : (b : Bool) → eqb (verdict_number v) 0 ≡ b → Ok u ≡ pick b (Ok (tt {0})) (Err v) → verdict_number v ≡ 0
+    go true eb e = eqb-true (verdict_number v) 0 eb
+    go false eb e = absurd (cc)
+
 module _ (d : List ℕ) (e : Expected) (c : CheckedTable) (end : ℕ) (reading : Reading) (head : Head) where
-  pub headed_read : head ≡ head_at d end reading.verdict → header_len ≤ end → Accepted ≡ header_verdict d e
+  pub headed_read : head ≡ head_at d end reading.verdict → header_len ≤ end → (u : Unit {0}) → Ok u ≡ header_is (header_verdict d e)
       → reading ≡ checked_of (take (end - header_len) (drop header_len d)) (table_in c.count c.cells) c.count c.width
       → record { head = head; reading = reading } ≡ headed_in d e c end
-  headed_read eh large v er =
+  headed_read eh large u v er =
       let z : reading ≡ checked_of (slice header_len end d) (table_in c.count c.cells) c.count c.width = er ∙ rw (cut_slice header_len end d large) in
-      rw (eh, z, ← v)
+      rw (eh, z, header_ok (header_verdict d e) u v)
 
-  pub headed_refused : (why : Verdict) → head ≡ head_at d end why → why ≡ header_verdict d e → (why ≡ Accepted → ⊥) → reading ≡ cleared c.count why 0
+  pub headed_refused : (why : Verdict) → head ≡ head_at d end why → Err why ≡ header_is (header_verdict d e) → reading ≡ cleared c.count why 0
       → record { head = head; reading = reading } ≡ headed_in d e c end
-  headed_refused why eh v n er = rw (eh, er, ← v, ne_eqb (verdict_number why) 0 (λ z. n (verdict_one why Accepted z)))
+  headed_refused why eh v er =
+      let h = header_err (header_verdict d e) why v in
+      rw (eh, er, h.0, ne_eqb (verdict_number (header_verdict d e)) 0 h.1)

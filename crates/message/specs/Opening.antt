@@ -21,6 +21,10 @@ end_in d =
     (pick (length_fails (length_of d) (length d)) (Err Length)
     (Ok (end_of d)))
 
+-- the header's verdict: it is as expected, or why not
+abbrev pub header_is : Verdict → Result (Unit {0}) Verdict
+header_is v = pick (eqb (verdict_number v) 0) (Ok tt) (Err v)
+
 -- 12 to 16, or what the payload of a message answers that ends at a place
 abbrev pub payload_read : List ℕ → Expected → CheckedTable → ℕ → Reading
 payload_read d e c end =

@@ -3,7 +3,7 @@
 ghost use Rattle.std.specs.Prelude.{◌≡◌, ◌≤◌, length, IfOk};
 ghost use Rattle.payload.specs.Reading.{cleared};
 ghost use Rattle.message.specs.Reading.{unheaded, length_fails, header_verdict, payload_shown, head_at, message_of};
-ghost use Rattle.message.specs.Opening.{end_in, headed_in};
+ghost use Rattle.message.specs.Opening.{header_is, end_in, headed_in};
 
 use super::message_type::MessageType;
 use payload::read;
@@ -45,53 +45,49 @@ fn length_fails(length: u64, size: usize) -> bool
     requires { 16 ≤ size }
     ensures { result ≡ length_fails length size }
 {
-    if length < 8 {
-        return true;
-    }
-    ((size - 8) as u64) < length
+    length < 8 || ((size - 8) as u64) < length
 }
 
-// What a header answers to the caller's expectation, in the verdicts' order.
-fn header_verdict(d: &[u8], e: Expected) -> Verdict
+// Whether a header is what the caller expects, in the verdicts' order.
+fn check_header(d: &[u8], e: Expected) -> Result<(), Verdict>
     requires { 16 ≤ length d.now }
-    ensures { result ≡ header_verdict d.now e }
+    ensures { result ≡ header_is (header_verdict d.now e) }
 {
     if d[header::VERSION_AT] != header::VERSION {
-        return Verdict::Protocol;
+        return Err(Verdict::Protocol);
     }
     if header::two_at(d, header::SERVICE_AT) != e.service.0 {
-        return Verdict::Service;
+        return Err(Verdict::Service);
     }
     if d[header::INTERFACE_AT] != e.interface {
-        return Verdict::Interface;
+        return Err(Verdict::Interface);
     }
     if header::two_at(d, header::METHOD_AT) != e.method.0 {
-        return Verdict::Method;
+        return Err(Verdict::Method);
     }
     if d[header::TYPE_AT] != e.kind.0 {
-        return Verdict::MessageType;
+        return Err(Verdict::MessageType);
     }
-    Verdict::Accepted
+    Ok(())
 }
 
-// The payload's part of a message that ends at `end`: none is given after 12 to 17.
+// The payload's part of a message that ends at `end`: none is given where the header is refused, or the payload for its size.
+#[tactic(auto, unfolding(crate::specs::Reading::payload_shown))]
 fn payload_shown(why: Verdict, end: usize) -> Part
     requires { 16 ≤ end }
     ensures { result ≡ payload_shown why end }
 {
-    let n = why.number();
-    if n < 12 {
-        return Part {
+    match why {
+        Verdict::Protocol
+        | Verdict::Service
+        | Verdict::Interface
+        | Verdict::Method
+        | Verdict::MessageType
+        | Verdict::Large => Part { at: 0, len: 0 },
+        _ => Part {
             at: header::LEN,
             len: end - header::LEN,
-        };
-    }
-    if n < 18 {
-        return Part { at: 0, len: 0 };
-    }
-    Part {
-        at: header::LEN,
-        len: end - header::LEN,
+        },
     }
 }
 
@@ -148,8 +144,7 @@ fn headed(d: &[u8], e: Expected, table: &CheckedTable, end: usize) -> MessageRea
     requires { (16 ≤ end) × (end ≤ length d.now) }
     ensures { result ≡ headed_in d.now e table.now end }
 {
-    let why = header_verdict(d, e);
-    if why != Verdict::Accepted {
+    if let Err(why) = check_header(d, e) {
         return MessageReading {
             head: head_at(d, end, why),
             reading: Reading::refused(why, 0, table.count),

