@@ -5,6 +5,7 @@
 
 ghost use Rattle.std.specs.Prelude.{◌≡◌, ◌≤◌, ◌<◌, length, max, vec_len};
 ghost use Rattle.std.specs.Io.{StartsWith};
+ghost use Rattle.text.specs.declared.quote.QuoteError.TheVariants.{OutOfMemory};
 
 use std::alloc::AllocFailed;
 use std::io;
@@ -82,6 +83,8 @@ pub enum QuoteError {
 }
 
 impl<T: Drop> From<AllocFailed<T>> for QuoteError {
+    ghost from_gives = { λ _ why. why ≡ OutOfMemory };
+
     fn from(_why: AllocFailed<T>) -> QuoteError {
         QuoteError::OutOfMemory
     }
