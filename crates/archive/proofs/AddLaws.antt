@@ -18,7 +18,7 @@ use Rattle.wire.proofs.StoreLaws.{two_stores, three_stores}
 use Rattle.archive.specs.declared.verdict.Verdict.{Verdict}
 use Rattle.archive.specs.declared.verdict.Verdict.TheVariants.{Accepted, Full, Records, NoMessage}
 use Rattle.archive.specs.declared.form.Form.{Form}
-use Rattle.archive.specs.declared.records.Walked.{Walked}
+use Rattle.std.specs.Prelude.{Some, None, Result, Err}
 use Rattle.archive.specs.declared.add.Kept.{Kept}
 use Rattle.archive.specs.Form.{
   form_number,
@@ -37,10 +37,10 @@ use Rattle.archive.specs.Form.{
 }
 use Rattle.archive.specs.Records.{messages_to}
 use Rattle.archive.specs.Adding.{Outcome, refused, stores, is_full, adding, closing, kept_by, file_by}
-use Rattle.archive.specs.Walking.{walked_from, is_whole, listed}
+use Rattle.archive.specs.Walking.{walked_from, is_whole, listed, kept_as}
 use Rattle.archive.proofs.FormLaws.{entries_long}
 use Rattle.archive.proofs.RecordLaws.{length_record, length_index, length_closing}
-use Rattle.archive.proofs.LeftLaws.{walked_none, walked_some, walked_count, told_size, told_few, cut_records}
+use Rattle.archive.proofs.LeftLaws.{walked_none, walked_some, told_size, told_few, cut_records}
 
 -- ---- 50
 
@@ -102,22 +102,22 @@ trailer_stores f l l1 l2 l3 to at n v e1 e2 ev e3 =
 -- ---- what adding and closing come to, as the code finds it
 
 -- a refused call, and one that stores
-pub when_refused : (old : List ℕ) (told : ℕ) {o : Outcome} {v : Verdict} {r : Kept} → o ≡ refused v → r ≡ kept_by 0 (refused v)
-    → (r ≡ kept_by told o) × (old ≡ file_by old told o)
-when_refused old told e k = (k ∙ rw e, rw e)
+pub when_refused : (old : List ℕ) (told : ℕ) {o : Outcome} {v : Verdict} {r : Result ℕ Verdict} → o ≡ refused v → r ≡ Err v
+    → (kept_as r ≡ kept_by told o) × (old ≡ file_by old told o)
+when_refused old told e k = (ap kept_as k ∙ rw e, rw e)
 
 pub when_stores : (old : List ℕ) (told : ℕ) {o : Outcome} {xs : List ℕ} {r : Kept} {new : List ℕ} → o ≡ stores xs
     → r ≡ kept_by told (stores xs) → new ≡ sets old told xs → (r ≡ kept_by told o) × (new ≡ file_by old told o)
 when_stores old told e k n = (k ∙ rw e, n ∙ rw e)
 
-module _ (old : List ℕ) (told : ℕ) (w : Walked) (we : w ≡ walked_from 0 (messages_to old told)) where
+module _ (old : List ℕ) (told : ℕ) where
   abbrev found : List (List ℕ)
   found = listed (messages_to old told)
 
   -- 52
-  module _ (wh : w.whole ≡ false) where
+  module _ (torn : None ≡ walked_from 0 (messages_to old told)) where
     not_found : messages_to old told ≡ none
-    not_found = walked_none (messages_to old told) w we wh
+    not_found = walked_none (messages_to old told) torn
 
     pub add_records : (m : List ℕ) → adding old told m ≡ refused Records
     unfolding adding
@@ -127,15 +127,15 @@ module _ (old : List ℕ) (told : ℕ) (w : Walked) (we : w ≡ walked_from 0 (m
     unfolding closing
     close_records = rw not_found
 
-  module _ (wh : w.whole ≡ true) where
+  module _ (count : ℕ) (walked : Some count ≡ walked_from 0 (messages_to old told)) where
     found_is : messages_to old told ≡ some found
-    found_is = walked_some (messages_to old told) w we wh
+    found_is = (walked_some (messages_to old told) count walked).0
 
-    count_is : w.count ≡ length found
-    count_is = walked_count (messages_to old told) w we
+    count_is : count ≡ length found
+    count_is = (walked_some (messages_to old told) count walked).1
 
     -- so few that one more is no wrap
-    pub count_few : w.count ≤ told
+    pub count_few : count ≤ told
     count_few = omega (arith, count_is, told_few old told found found_is)
 
     -- 53
@@ -146,40 +146,40 @@ module _ (old : List ℕ) (told : ℕ) (w : Walked) (we : w ≡ walked_from 0 (m
     -- 50, or the record
     module _ (m : List ℕ) (e : message_fits m ≡ true) where
       adding_by : adding old told m
-          ≡ pick (is_full written (length old) (told + record_size m) (w.count + 1)) (refused Full) (stores (record_bytes m))
+          ≡ pick (is_full written (length old) (told + record_size m) (count + 1)) (refused Full) (stores (record_bytes m))
       unfolding adding
-      adding_by = let n : w.count + 1 ≡ suc (length found) = omega (arith, count_is) in rw (found_is, e, n)
+      adding_by = let n : count + 1 ≡ suc (length found) = omega (arith, count_is) in rw (found_is, e, n)
 
-      pub add_full_lem : is_full written (length old) (told + record_size m) (w.count + 1) ≡ true → adding old told m ≡ refused Full
+      pub add_full_lem : is_full written (length old) (told + record_size m) (count + 1) ≡ true → adding old told m ≡ refused Full
       add_full_lem h = adding_by ∙ rw h
 
       pub add_over : limit written < told → adding old told m ≡ refused Full
-      add_over h = add_full_lem (sym (full_size written (length old) (told + record_size m) (w.count + 1) (omega arith)))
+      add_over h = add_full_lem (sym (full_size written (length old) (told + record_size m) (count + 1) (omega arith)))
 
-      pub add_stores : is_full written (length old) (told + record_size m) (w.count + 1) ≡ false → adding old told m ≡ stores (record_bytes m)
+      pub add_stores : is_full written (length old) (told + record_size m) (count + 1) ≡ false → adding old told m ≡ stores (record_bytes m)
       add_stores h = adding_by ∙ rw h
 
     -- 50, or index and trailer
-    closing_by : closing old told ≡ pick (is_full written (length old) told w.count) (refused Full) (stores (closing_bytes written found))
+    closing_by : closing old told ≡ pick (is_full written (length old) told count) (refused Full) (stores (closing_bytes written found))
     unfolding closing
     closing_by = rw (found_is, count_is)
 
-    pub close_full_lem : is_full written (length old) told w.count ≡ true → closing old told ≡ refused Full
+    pub close_full_lem : is_full written (length old) told count ≡ true → closing old told ≡ refused Full
     close_full_lem h = closing_by ∙ rw h
 
-    pub close_stores : is_full written (length old) told w.count ≡ false → closing old told ≡ stores (closing_bytes written found)
+    pub close_stores : is_full written (length old) told count ≡ false → closing old told ≡ stores (closing_bytes written found)
     close_stores h = closing_by ∙ rw h
 
-    pub index_room : is_full written (length old) told w.count ≡ false
+    pub index_room : is_full written (length old) told count ≡ false
         → (is_whole (messages_to old told) ≡ true) × (told + entry_size written * length found ≤ length old)
-    index_room h = (rw found_is, omega (arith, count_is, not_full written (length old) told w.count h))
+    index_room h = (rw found_is, omega (arith, count_is, not_full written (length old) told count h))
 
     records_size : AreBytes old → length (records_bytes found) ≡ told
     records_size b = told_size old told found (cut_records old told found found_is b)
 
     module _ {e : ℕ} (ee : e ≡ entry_size written) where
       pub closing_stores : AreBytes old → {l1 l2 : List ℕ} → l1 ≡ sets old told (index_bytes written 0 found)
-          → l2 ≡ sets l1 (told + e * w.count) (trailer_bytes written told w.count)
+          → l2 ≡ sets l1 (told + e * count) (trailer_bytes written told count)
           → l2 ≡ sets old told (closing_bytes written found)
       unfolding closing_bytes
       closing_stores b e1 e2 =
@@ -188,21 +188,21 @@ module _ (old : List ℕ) (told : ℕ) (w : Walked) (we : w ≡ walked_from 0 (m
           (two_stores old (index_bytes written 0 found) (trailer_bytes written told (length found)) told (entry_size written * length found)
           (length_index written 0 found))
 
-      pub closed_size : record { verdict = Accepted; size = told + e * w.count + trailer_len }
+      pub closed_size : record { verdict = Accepted; size = told + e * count + trailer_len }
           ≡ kept_by told (stores (closing_bytes written found))
       closed_size =
-          let n : told + e * w.count + trailer_len ≡ told + length (closing_bytes written found) =
+          let n : told + e * count + trailer_len ≡ told + length (closing_bytes written found) =
           rw ee (omega (arith, count_is, length_closing written found)) in
           ap (λ k. record { verdict = Accepted; size = k }) n
 
       -- the whole fits, and no sum wraps
-      module _ (h : is_full written (length old) told w.count ≡ false) where
-        pub closing_few : told + e * w.count + trailer_len ≤ limit written
-        closing_few = rw ee (not_full written (length old) told w.count h).1
+      module _ (h : is_full written (length old) told count ≡ false) where
+        pub closing_few : told + e * count + trailer_len ≤ limit written
+        closing_few = rw ee (not_full written (length old) told count h).1
 
-        pub trailer_room : {l1 : List ℕ} → l1 ≡ sets old told (index_bytes written 0 found) → told + e * w.count + trailer_len ≤ length l1
+        pub trailer_room : {l1 : List ℕ} → l1 ≡ sets old told (index_bytes written 0 found) → told + e * count + trailer_len ≤ length l1
         trailer_room e1 =
-            rw (e1, length-sets old told (index_bytes written 0 found), ee) (not_full written (length old) told w.count h).0
+            rw (e1, length-sets old told (index_bytes written 0 found), ee) (not_full written (length old) told count h).0
 
 pub added_size : (told : ℕ) (m : List ℕ) → record { verdict = Accepted; size = told + record_size m } ≡ kept_by told (stores (record_bytes m))
 added_size told m = rw (length_record m)

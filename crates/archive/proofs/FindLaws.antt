@@ -18,58 +18,42 @@ use Rattle.archive.specs.declared.verdict.Verdict.{Verdict}
 use Rattle.archive.specs.declared.verdict.Verdict.TheVariants.{Accepted, NoRecord}
 use Rattle.archive.specs.declared.form.Form.{Form}
 use Rattle.archive.specs.declared.form.Form.TheVariants.{One}
-use Rattle.archive.specs.declared.open.Opening.{Opening}
-use Rattle.archive.specs.Verdict.{verdict_number}
-use Rattle.archive.specs.Form.{offset_width, entry_size, limit, AreMessages, file_of}
-use Rattle.archive.specs.Opening.{Archive, refused, holds, archive_of, opening_by}
+use Rattle.archive.specs.declared.open.Index.{Index}
+use Rattle.std.specs.Prelude.{Ok, Err}
+use Rattle.archive.specs.Form.{offset_width, entry_size, limit, AreMessages, records_bytes, file_of}
+use Rattle.archive.specs.Opening.{Archive, refused, holds, archive_of}
 use Rattle.archive.specs.Finding.{message_at, offset_at, none_found, reading_by, counted, first_of, first_in}
-use Rattle.archive.specs.Walking.{InForm, not_opened, opened, Opened}
-use Rattle.archive.proofs.FormLaws.{width_most, one_form}
-use Rattle.archive.proofs.VerdictLaws.{verdict_one}
+use Rattle.archive.specs.Walking.{InForm, not_opened, opened, Opened, opened_by}
+use Rattle.archive.proofs.FormLaws.{one_form}
 use Rattle.archive.proofs.RecordLaws.{length_file}
 use Rattle.archive.proofs.PlaceLaws.{record_there, file_length, file_offset, file_session}
-use Rattle.archive.proofs.AcceptLaws.{held_is, refused_other}
+use Rattle.archive.proofs.AcceptLaws.{held_is}
 
--- ---- what the answer to opening says
+-- ---- what opening says
 
 -- the messages of an archive
 abbrev pub held_by : Archive → List (List ℕ)
 held_by (refused v) = []
 held_by (holds f ms) = ms
 
-module _ (file : List ℕ) (o : Opening) (eo : o ≡ opening_by (archive_of file)) where
-  held_count : o.entries ≡ length (held_by (archive_of file))
-  held_count = ap (λ (x : Opening). x.entries) eo ∙ go (archive_of file)
+module _ (file : List ℕ) where
+  -- a file with an index was opened
+  pub index_opened : (f : Form) → InForm f (archive_of file) → (i : Index) → Ok i ≡ opened_by (archive_of file) → Opened file f i.at i.entries
+  index_opened f form i e = go (archive_of file) form refl e
     where
-      go : (a : Archive) → (opening_by a).entries ≡ length (held_by a)
-      go (refused v) = refl
-      go (holds f ms) = refl
+      go : (a : Archive) → InForm f a → archive_of file ≡ a → Ok i ≡ opened_by a → Opened file f i.at i.entries
+      go a (not_opened v) d e = cc
+      go a (opened ms) d e =
+          let same : i ≡ record { at = length (records_bytes ms); entries = length ms } = cc in
+          record { messages = ms; are_held = d; size_is = ap (λ (x : Index). x.at) same; count_is = ap (λ (x : Index). x.entries) same }
 
-  module _ (f : Form) (form : InForm f (archive_of file)) where
-    opened_as : (a : Archive) → InForm f a → archive_of file ≡ a → ((v : Verdict) → a ≡ refused v → ⊥)
-        → Opened file f o.size o.entries
-    opened_as a (not_opened v) e h = absurd (h v refl)
-    opened_as a (opened ms) e h = record { messages = ms; are_held = e; size_is = rw (eo, e); count_is = rw (eo, e) }
-
-    -- some entries, or verdict 0: the file was opened
-    opened_some : 0 < o.entries → Opened file f o.size o.entries
-    opened_some h =
-        opened_as (archive_of file) form refl (λ v e. let z = ap (λ (x : Opening). x.entries) (eo ∙ ap opening_by e) in omega arith)
-
-    pub opened_zero : verdict_number o.verdict ≡ 0 → Opened file f o.size o.entries
-    opened_zero h =
-        opened_as (archive_of file) form refl
-        (λ v e.
-        let same : verdict_number o.verdict ≡ verdict_number v = ap (λ (x : Opening). verdict_number x.verdict) (eo ∙ ap opening_by e) in
-        refused_other file v e (verdict_one v Accepted (sym same ∙ h)))
-
-  -- any other verdict is shown
-  pub shown_refused : (n : ℕ) → (verdict_number o.verdict ≡ 0 → ⊥) → none_found o.verdict ≡ reading_by n (archive_of file)
-  shown_refused n h = go (archive_of file) eo
+  -- one without is refused by the same verdict
+  pub index_refused : (v : Verdict) → Err v ≡ opened_by (archive_of file) → archive_of file ≡ refused v
+  index_refused v e = go (archive_of file) e
     where
-      go : (a : Archive) → o ≡ opening_by a → none_found o.verdict ≡ reading_by n a
-      go (refused v) e = rw e
-      go (holds f ms) e = absurd (h (ap (λ (x : Opening). verdict_number x.verdict) e))
+      go : (a : Archive) → Err v ≡ opened_by a → a ≡ refused v
+      go (refused w) e = cc
+      go (holds f ms) e = cc
 
 -- there is one form
 pub in_one : (a : Archive) → InForm One a
@@ -199,51 +183,34 @@ module _ (session : ℕ) (ms : List (List ℕ)) (i : ℕ) where
 
 -- ---- as the code searches
 
--- No message before the i-th has the Session ID; the next entry's Session ID stands at `at`.
-pub record Seeking (file : List ℕ) (f : Form) (o : Opening) (session i at : ℕ) : Type 0 where
-  pub within : i ≤ o.entries
-  pub place : at ≡ o.size + entry_size f * i + offset_width f
-  pub left : first_in session (archive_of file) ≡ numbered i (first_of session (drop i (held_by (archive_of file))))
+-- no message of the first i has the Session ID
+abbrev pub Seeking : List ℕ → ℕ → ℕ → Type 0
+Seeking file session i = first_in session (archive_of file) ≡ numbered i (first_of session (drop i (held_by (archive_of file))))
 
-pub seek_small : (file : List ℕ) (f : Form) (o : Opening) → o ≡ opening_by (archive_of file) → InForm f (archive_of file) → o.size ≤ limit f
-seek_small file f o eo form = rw eo (go (archive_of file) form refl)
-  where
-    go : (a : Archive) → InForm f a → archive_of file ≡ a → (opening_by a).size ≤ limit f
-    go a (not_opened v) e = omega arith
-    go a (opened ms) e =
-        let (is, are, few) = held_is file f ms e in
-        omega (arith, ap length is, length_file f ms)
+module _ (file : List ℕ) (session : ℕ) where
+  pub seek_start : Seeking file session 0
+  seek_start = first_start session (archive_of file)
 
-module _ (file : List ℕ) (f : Form) (o : Opening) (eo : o ≡ opening_by (archive_of file)) (form : InForm f (archive_of file))
-    (session : ℕ) where
-  pub seek_start : (w : ℕ) → w ≡ offset_width f → Seeking file f o session 0 (o.size + w)
-  seek_start w ew = record { within = omega arith; place = omega arith; left = first_start session (archive_of file) }
+  module _ (f : Form) (size count : ℕ) (o : Opened file f size count) where
+    many : length (held_by (archive_of file)) ≡ count
+    many = ap (λ a. length (held_by a)) o.are_held ∙ sym o.count_is
 
-  pub seek_end : (i at : ℕ) → Seeking file f o session i at → o.entries ≤ i → 0 ≡ first_in session (archive_of file)
-  seek_end i at s h = sym (s.left ∙ first_none session (held_by (archive_of file)) i (omega (arith, held_count file o eo)))
+    pub seek_end : (i : ℕ) → Seeking file session i → count ≤ i → 0 ≡ first_in session (archive_of file)
+    seek_end i s h = sym (s ∙ first_none session (held_by (archive_of file)) i (omega (arith, many)))
 
-  module _ (are : AreBytes file) where
-    module _ (i at : ℕ) (s : Seeking file f o session i at) (more : i < o.entries) where
-      found : Opened file f o.size o.entries
-      found = opened_some file o eo f form (omega arith)
+    module _ (are : AreBytes file) (i : ℕ) (more : i < count) (e w : ℕ) (ee : e ≡ entry_size f) (ew : w ≡ offset_width f) where
+      pub seek_in : size + e * i + w + 2 ≤ length file
+      seek_in = rw (ee, ew) (omega (arith, entry_in file f size count o are i more))
 
-      pub seek_in : at + entry_size f ≤ length file
-      seek_in = omega (arith, s.place, entry_in file f o.size o.entries found are i more, width_most f)
-
-      module _ (v : ℕ) (ev : v ≡ field_at at 2 file) where
+      module _ (s : Seeking file session i) (v : ℕ) (ev : v ≡ field_at (size + e * i + w) 2 file) where
         v_is : v ≡ session_of (message_at (held_by (archive_of file)) i)
-        v_is = ev ∙ rw (s.place, found.are_held) (session_is file f o.size o.entries found are i more)
+        v_is = ev ∙ rw (ee, ew, o.are_held) (session_is file f size count o are i more)
 
         listed : i < length (held_by (archive_of file))
-        listed = omega (arith, held_count file o eo)
+        listed = omega (arith, many)
 
         pub seek_hit : v ≡ session → i + 1 ≡ first_in session (archive_of file)
-        seek_hit e = sym (s.left ∙ first_hit session (held_by (archive_of file)) i listed (sym v_is ∙ e))
+        seek_hit d = sym (s ∙ first_hit session (held_by (archive_of file)) i listed (sym v_is ∙ d))
 
-        pub seek_on : (v ≡ session → ⊥) → (e : ℕ) → e ≡ entry_size f → Seeking file f o session (i + 1) (at + e)
-        seek_on other e ee =
-            record {
-              within = omega arith;
-              place = omega (arith, s.place);
-              left = s.left ∙ first_miss session (held_by (archive_of file)) i listed (λ q. other (v_is ∙ q));
-            }
+        pub seek_on : (v ≡ session → ⊥) → Seeking file session (i + 1)
+        seek_on other = s ∙ first_miss session (held_by (archive_of file)) i listed (λ q. other (v_is ∙ q))

@@ -13,7 +13,8 @@ use borrow.Author.Tests.{le-leb, leb-true}
 use Rattle.wire.specs.Choose.{pick}
 use Rattle.wire.specs.Number.{AreBytes}
 use Rattle.wire.proofs.NumberLaws.{bytes_take}
-use Rattle.archive.specs.declared.records.Walked.{Walked}
+use Rattle.std.specs.Prelude.{Some, None}
+use Rattle.std.proofs.lemmas.Option.{same_Some}
 use Rattle.archive.specs.Form.{AreMessages, records_bytes}
 use Rattle.archive.specs.Records.{message_in, record_fits, before, cut_all, messages_in, messages_to}
 use Rattle.archive.specs.Walking.{cut_size, walked_from, is_whole, listed}
@@ -32,26 +33,13 @@ whole_some none e = cc
 whole_some (some ms) e = refl
 
 -- as the walk over them answers
-module _ (r : Option (List (List ℕ))) (w : Walked) (we : w ≡ walked_from 0 r) where
-  walked_whole : is_whole r ≡ w.whole
-  walked_whole = go r ∙ ap (λ (x : Walked). x.whole) (sym we)
-    where
-      go : (r : Option (List (List ℕ))) → is_whole r ≡ (walked_from 0 r).whole
-      go none = refl
-      go (some ms) = refl
+pub walked_none : (r : Option (List (List ℕ))) → None ≡ walked_from 0 r → r ≡ none
+walked_none none e = refl
+walked_none (some ms) e = cc
 
-  pub walked_none : w.whole ≡ false → r ≡ none
-  walked_none e = whole_none r (walked_whole ∙ e)
-
-  pub walked_some : w.whole ≡ true → r ≡ some (listed r)
-  walked_some e = whole_some r (walked_whole ∙ e)
-
-  pub walked_count : w.count ≡ length (listed r)
-  walked_count = ap (λ (x : Walked). x.count) we ∙ go r
-    where
-      go : (r : Option (List (List ℕ))) → (walked_from 0 r).count ≡ length (listed r)
-      go none = refl
-      go (some ms) = omega arith
+pub walked_some : (r : Option (List (List ℕ))) (n : ℕ) → Some n ≡ walked_from 0 r → (r ≡ some (listed r)) × (n ≡ length (listed r))
+walked_some none n e = cc
+walked_some (some ms) n e = (refl, same_Some n (0 + length ms) e ∙ omega arith)
 
 before_whole : (m : List ℕ) (r : Option (List (List ℕ))) → is_whole (before m r) ≡ is_whole r
 before_whole m none = refl

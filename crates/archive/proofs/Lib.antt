@@ -19,3 +19,4 @@ pub mod KeepLaws
 pub mod AddedLaws
 pub mod Cases
 pub mod Promises
+pub mod ExitLaws

@@ -14,10 +14,11 @@ use Rattle.wire.specs.Choose.{pick, and}
 use Rattle.wire.specs.Number.{AreBytes, big, number_bytes}
 use Rattle.wire.specs.Header.{field_at}
 use Rattle.wire.proofs.NumberLaws.{bytes_slice, bytes_back}
-use Rattle.archive.specs.declared.verdict.Verdict.TheVariants.{Accepted, Trailer, Records}
+use Rattle.archive.specs.declared.verdict.Verdict.TheVariants.{Trailer, Records}
 use Rattle.archive.specs.declared.form.Form.{Form}
-use Rattle.archive.specs.declared.records.Walked.{Walked}
-use Rattle.archive.specs.declared.open.Opening.{Opening}
+use Rattle.archive.specs.declared.open.Index.{Index}
+use Rattle.archive.specs.declared.verdict.Verdict.{Verdict}
+use Rattle.std.specs.Prelude.{Some, None, Result, Ok}
 use Rattle.archive.specs.Form.{
   form_number,
   form_of,
@@ -43,14 +44,13 @@ use Rattle.archive.specs.Opening.{
   outgrows,
   open_as,
   archive_of,
-  opening_by,
 }
 use Rattle.archive.specs.Promises.{RecordsTo}
-use Rattle.archive.specs.Walking.{walked_from, listed, Trailed}
+use Rattle.archive.specs.Walking.{walked_from, listed, Trailed, opened_by}
 use Rattle.archive.proofs.ListLaws.{slice_split}
 use Rattle.archive.proofs.FormLaws.{form_of_lem, form_back, form_none}
 use Rattle.archive.proofs.RecordLaws.{length_index, length_file}
-use Rattle.archive.proofs.LeftLaws.{walked_none, walked_some, walked_count, told_size, cut_records}
+use Rattle.archive.proofs.LeftLaws.{walked_none, walked_some, told_size, cut_records}
 use Rattle.archive.proofs.SameLaws.{is_same, same_by, same_append}
 use Rattle.archive.proofs.FileLaws.{file_entries}
 use Rattle.archive.proofs.AgreeLaws.{Told}
@@ -143,54 +143,53 @@ module _ (file : List ℕ) (are : AreBytes file) where
           (and_true (same (slice size end file) (index_bytes f 0 ms)))
 
     -- as the code goes
-    module _ (w : Walked) (ew : w ≡ walked_from 0 (messages_to file size)) where
-      abbrev r : Option (List (List ℕ))
-      r = messages_to file size
+    abbrev r : Option (List (List ℕ))
+    r = messages_to file size
 
-      pub check_torn : w.whole ≡ false → opening_by (refused Records) ≡ opening_by (checked file f r)
-      check_torn e = rw (walked_none r w ew e)
+    pub check_torn : None ≡ walked_from 0 r → opened_by (refused Records) ≡ opened_by (checked file f r)
+    check_torn e = rw (walked_none r e)
 
-      module _ (whole : w.whole ≡ true) where
-        is : r ≡ some (listed r)
-        is = walked_some r w ew whole
+    module _ (count : ℕ) (walked : Some count ≡ walked_from 0 r) where
+      is : r ≡ some (listed r)
+      is = (walked_some r count walked).0
 
-        found : (b : Bool) → same file (file_of f (listed r)) ≡ b
-            → opening_by (checked file f r) ≡ opening_by (pick b (holds f (listed r)) (refused Records))
-        found b e = ap (λ x. opening_by (checked file f x)) is ∙ rw e
+      found : (b : Bool) → same file (file_of f (listed r)) ≡ b
+          → opened_by (checked file f r) ≡ opened_by (pick b (holds f (listed r)) (refused Records))
+      found b e = ap (λ x. opened_by (checked file f x)) is ∙ rw e
 
-        counted : w.count ≡ length (listed r)
-        counted = walked_count r w ew
+      counted : count ≡ length (listed r)
+      counted = (walked_some r count walked).1
 
-        pub check_count : (w.count ≡ n → ⊥) → opening_by (refused Records) ≡ opening_by (checked file f r)
-        check_count other = sym (found false (count_other (listed r) is (λ e. other (counted ∙ e))))
+      pub check_count : (count ≡ n → ⊥) → opened_by (refused Records) ≡ opened_by (checked file f r)
+      check_count other = sym (found false (count_other (listed r) is (λ e. other (counted ∙ e))))
 
-        module _ (count : w.count ≡ n) (e : ℕ) (ee : e ≡ entry_size f) where
-          pub check_end : (size + e * n ≡ end → ⊥) → opening_by (refused Records) ≡ opening_by (checked file f r)
-          check_end other = sym (found false (end_other (listed r) is (sym counted ∙ count) (λ q. other (rw ee q))))
+      module _ (many : count ≡ n) (e : ℕ) (ee : e ≡ entry_size f) where
+        pub check_end : (size + e * n ≡ end → ⊥) → opened_by (refused Records) ≡ opened_by (checked file f r)
+        check_end other = sym (found false (end_other (listed r) is (sym counted ∙ many) (λ q. other (rw ee q))))
 
-          module _ (ends : size + e * n ≡ end) where
-            ends_as : size + entry_size f * n ≡ end
-            ends_as = rw ee at ends
+        module _ (ends : size + e * n ≡ end) where
+          ends_as : size + entry_size f * n ≡ end
+          ends_as = rw ee at ends
 
-            pub check_told : Told file f size end
-            check_told =
-                let m : entry_size f * length (listed r) ≡ entry_size f * n = rw (← counted, count) in
-                (rw is, omega (arith, t.most, inside), omega (arith, ends_as), omega (arith, t.whole))
+          pub check_told : Told file f size end
+          check_told =
+              let m : entry_size f * length (listed r) ≡ entry_size f * n = rw (← counted, many) in
+              (rw is, omega (arith, t.most, inside), omega (arith, ends_as), omega (arith, t.whole))
 
-            module _ (b : Bool) (eb : b ≡ same (slice size end file) (index_bytes f 0 (listed r))) where
-              decided : same file (file_of f (listed r)) ≡ b
-              decided = index_decides (listed r) is (sym counted ∙ count) ends_as ∙ sym eb
+          module _ (b : Bool) (eb : b ≡ same (slice size end file) (index_bytes f 0 (listed r))) where
+            decided : same file (file_of f (listed r)) ≡ b
+            decided = index_decides (listed r) is (sym counted ∙ many) ends_as ∙ sym eb
 
-              pub check_index : b ≡ false → opening_by (refused Records) ≡ opening_by (checked file f r)
-              check_index e = sym (found false (decided ∙ e))
+            pub check_index : b ≡ false → opened_by (refused Records) ≡ opened_by (checked file f r)
+            check_index e = sym (found false (decided ∙ e))
 
-              pub check_all : b ≡ true → record { verdict = Accepted; size = size; entries = n } ≡ opening_by (checked file f r)
-              check_all e = sym (found true (decided ∙ e) ∙ rw (records_long (listed r) is, ← counted, count))
+            pub check_all : b ≡ true → Ok (record { at = size; entries = n }) ≡ opened_by (checked file f r)
+            check_all e = sym (found true (decided ∙ e) ∙ rw (records_long (listed r) is, ← counted, many))
 
 -- ---- 51, as the code goes
 
 module _ (file : List ℕ) where
-  pub open_short : length file < trailer_len → opening_by (refused Trailer) ≡ opening_by (archive_of file)
+  pub open_short : length file < trailer_len → opened_by (refused Trailer) ≡ opened_by (archive_of file)
   unfolding archive_of
   open_short h = rw (lt-ltb (length file) trailer_len h)
 
@@ -199,18 +198,18 @@ module _ (file : List ℕ) where
     unfolding archive_of
     as_form o e = rw (le-ltb (length file) trailer_len long, e)
 
-    pub open_other : ((f : Form) → v ≡ form_number f → ⊥) → opening_by (refused Trailer) ≡ opening_by (archive_of file)
-    open_other other = ap opening_by (sym (as_form none (form_none (form_in file) (λ f q. other f (ev ∙ q)))))
+    pub open_other : ((f : Form) → v ≡ form_number f → ⊥) → opened_by (refused Trailer) ≡ opened_by (archive_of file)
+    open_other other = ap opened_by (sym (as_form none (form_none (form_in file) (λ f q. other f (ev ∙ q)))))
 
     module _ (f : Form) (form : v ≡ form_number f) (m : ℕ) (em : m ≡ limit f) where
       form_is : form_of (form_in file) ≡ some f
       form_is = rw (← ev, form) (form_of_lem f)
 
       outgrown : (b : Bool) → outgrows file f ≡ b
-          → opening_by (archive_of file) ≡ opening_by (pick b (refused Trailer) (checked file f (messages_to file (index_at file))))
-      outgrown b e = ap opening_by (as_form (some f) form_is) ∙ rw e
+          → opened_by (archive_of file) ≡ opened_by (pick b (refused Trailer) (checked file f (messages_to file (index_at file))))
+      outgrown b e = ap opened_by (as_form (some f) form_is) ∙ rw e
 
-      pub open_large : m < length file → opening_by (refused Trailer) ≡ opening_by (archive_of file)
+      pub open_large : m < length file → opened_by (refused Trailer) ≡ opened_by (archive_of file)
       unfolding outgrows
       open_large h = sym (outgrown true (rw (← em, lt-ltb m (length file) h)))
 
@@ -218,7 +217,7 @@ module _ (file : List ℕ) where
         under_limit : ltb (limit f) (length file) ≡ false
         under_limit = rw (← em) (le-ltb m (length file) small)
 
-        pub open_past : trailer_at file < at + e * n → opening_by (refused Trailer) ≡ opening_by (archive_of file)
+        pub open_past : trailer_at file < at + e * n → opened_by (refused Trailer) ≡ opened_by (archive_of file)
         unfolding outgrows
         open_past h =
             let p : ltb (trailer_at file) (index_at file + entry_size f * entries_in file) ≡ true
@@ -237,7 +236,7 @@ module _ (file : List ℕ) where
                 most = rw em at small;
               }
 
-          pub open_checked : (r : Opening) → r ≡ opening_by (checked file f (messages_to file at)) → r ≡ opening_by (archive_of file)
+          pub open_checked : (r : Result Index Verdict) → r ≡ opened_by (checked file f (messages_to file at)) → r ≡ opened_by (archive_of file)
           unfolding outgrows
           open_checked r er =
               let p : ltb (trailer_at file) (index_at file + entry_size f * entries_in file) ≡ false

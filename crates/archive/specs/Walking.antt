@@ -1,11 +1,18 @@
 -- What the code's own state stands for: its walks go by places in the file.
 use Rattle.std.specs.Prelude.{ℕ, ◌+◌, ◌*◌, ◌≤◌, ◌≡◌, Bool, true, false, List, [], length, eqb}
+use Rattle.std.specs.Prelude.{Option as Answer, Some, None, Result, Ok, Err}
 use Rattle.std.proofs.Math.Option.{Option, none, some}
 use Rattle.wire.specs.Choose.{pick, and}
+use Rattle.wire.specs.Part.{no_part}
 use Rattle.wire.specs.Header.{field_at, session_at}
 use Rattle.archive.specs.declared.verdict.Verdict.{Verdict}
+use Rattle.archive.specs.declared.verdict.Verdict.TheVariants.{Accepted}
 use Rattle.archive.specs.declared.form.Form.{Form}
-use Rattle.archive.specs.declared.records.Walked.{Walked}
+use Rattle.archive.specs.declared.add.Kept.{Kept}
+use Rattle.archive.specs.declared.open.Index.{Index}
+use Rattle.archive.specs.declared.open.Opening.{Opening}
+use Rattle.archive.specs.declared.find.Record.{Record}
+use Rattle.archive.specs.declared.find.Found.{Found}
 use Rattle.archive.specs.Form.{form_of, offset_width, entry_size, limit, records_bytes, trailer_len}
 use Rattle.archive.specs.Records.{length_in, record_fits}
 use Rattle.archive.specs.Opening.{index_at, entries_in, form_in, Archive, refused, holds, archive_of}
@@ -14,10 +21,14 @@ use Rattle.archive.specs.Opening.{index_at, entries_in, form_in, Archive, refuse
 unfoldable pub cut_size : List ℕ → ℕ
 cut_size bytes = pick (record_fits bytes) (2 + length_in bytes) 0
 
--- whether bytes were whole records, and how many with n before them
-abbrev pub walked_from : ℕ → Option (List (List ℕ)) → Walked
-walked_from n none = record { whole = false; count = 0 }
-walked_from n (some ms) = record { whole = true; count = n + length ms }
+-- the same, where they begin with one of a message
+unfoldable pub size_in : List ℕ → Answer ℕ
+size_in bytes = pick (record_fits bytes) (Some (2 + length_in bytes)) None
+
+-- how many records bytes were with n before them, if they were whole records
+abbrev pub walked_from : ℕ → Option (List (List ℕ)) → Answer ℕ
+walked_from n none = None
+walked_from n (some ms) = Some (n + length ms)
 
 abbrev pub is_whole : Option (List (List ℕ)) → Bool
 is_whole none = false
@@ -56,3 +67,22 @@ pub record Opened (file : List ℕ) (f : Form) (size n : ℕ) : Type 0 where
   pub are_held : archive_of file ≡ holds f messages
   pub size_is : size ≡ length (records_bytes messages)
   pub count_is : n ≡ length messages
+
+-- ---- what the code hands on where it is not refused, and the answers that are made of it
+
+-- the index of a file that was opened
+abbrev pub opened_by : Archive → Result Index Verdict
+opened_by (refused v) = Err v
+opened_by (holds f ms) = Ok (record { at = length (records_bytes ms); entries = length ms })
+
+abbrev pub opening_as : Result Index Verdict → Opening
+opening_as (Ok i) = record { verdict = Accepted; size = i.at; entries = i.entries }
+opening_as (Err v) = record { verdict = v; size = 0; entries = 0 }
+
+abbrev pub kept_as : Result ℕ Verdict → Kept
+kept_as (Ok n) = record { verdict = Accepted; size = n }
+kept_as (Err v) = record { verdict = v; size = 0 }
+
+abbrev pub found_as : Result Record Verdict → Found
+found_as (Ok r) = record { verdict = Accepted; number = r.number; message = r.message }
+found_as (Err v) = record { verdict = v; number = 0; message = no_part }

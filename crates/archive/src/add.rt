@@ -4,8 +4,8 @@ ghost use Rattle.std.specs.Prelude.{◌≡◌, ◌+◌, ◌*◌, ◌≤◌, ◌<
 ghost use Rattle.std.proofs.lemmas.List.Edits.{sets};
 ghost use Rattle.archive.specs.Form.{entry_size, record_bytes, index_bytes, trailer_bytes};
 ghost use Rattle.archive.specs.Records.{messages_to};
-ghost use Rattle.archive.specs.Adding.{refused, is_full, adding, closing, kept_by, file_by};
-ghost use Rattle.archive.specs.Walking.{is_whole, listed};
+ghost use Rattle.archive.specs.Adding.{is_full, adding, closing, kept_by, file_by};
+ghost use Rattle.archive.specs.Walking.{is_whole, listed, kept_as};
 
 use super::form::Form;
 use super::verdict::Verdict;
@@ -22,13 +22,16 @@ pub struct Kept {
     pub size: usize,
 }
 
-// The answer to a refused call.
-fn refuse(v: Verdict) -> Kept
-    ensures { result ≡ kept_by 0 (refused v) }
+// The answer to a call that gave a size, or was refused.
+fn answer(outcome: Result<usize, Verdict>) -> Kept
+    ensures { result ≡ kept_as outcome }
 {
-    Kept {
-        verdict: v,
-        size: 0,
+    match outcome {
+        Ok(size) => Kept {
+            verdict: Verdict::Accepted,
+            size,
+        },
+        Err(verdict) => Kept { verdict, size: 0 },
     }
 }
 
@@ -37,20 +40,15 @@ fn is_full(f: Form, room: usize, size: usize, n: usize) -> bool
     ensures { result ≡ is_full f room size n }
 {
     let most = f.limit();
-    if most < size {
-        return true;
-    }
-    if most < n {
+    if most < size || most < n {
         return true;
     }
     let whole = size + f.entry_size() * n + form::TRAILER_LEN;
-    if room < whole {
-        return true;
-    }
-    most < whole
+    room < whole || most < whole
 }
 
 // A message's record at `at`.
+#[tactic(auto, using(crate::proofs::AddLaws::record_stores))]
 fn put_record(file: &mut [u8], at: usize, m: &[u8])
     requires { at + (2 + length m.now) ≤ length file.old }
     ensures { file.new ≡ sets file.old at (record_bytes m.now) }
@@ -59,40 +57,43 @@ fn put_record(file: &mut [u8], at: usize, m: &[u8])
     part::put_run(file, at + form::LENGTH_LEN, m, 0, m.len());
 }
 
+// The records' size with a message added to those of a file, which have `told` bytes so far, or why there is none.
+fn added(file: &mut [u8], told: usize, m: &[u8]) -> Result<usize, Verdict>
+    ensures { (kept_as result ≡ kept_by told (adding file.old told m.now))
+        × (file.new ≡ file_by file.old told (adding file.old told m.now)) }
+{
+    let count = records::walk(file, told).ok_or(Verdict::Records)?;
+    if !records::is_message(m) {
+        return Err(Verdict::NoMessage);
+    }
+    if WRITTEN.limit() < told {
+        return Err(Verdict::Full);
+    }
+    let size = told + (form::LENGTH_LEN + m.len());
+    if is_full(WRITTEN, file.len(), size, count + 1) {
+        return Err(Verdict::Full);
+    }
+    put_record(file, told, m);
+    Ok(size)
+}
+
 // Adds a message to the records of a file, which have `told` bytes so far. The record alone is written.
 pub fn add(file: &mut [u8], told: usize, m: &[u8]) -> Kept
     ensures { (result ≡ kept_by told (adding file.old told m.now))
         × (file.new ≡ file_by file.old told (adding file.old told m.now)) }
 {
-    let w = records::walk(file, told);
-    if !w.whole {
-        return refuse(Verdict::Records);
-    }
-    if !records::is_message(m) {
-        return refuse(Verdict::NoMessage);
-    }
-    if WRITTEN.limit() < told {
-        return refuse(Verdict::Full);
-    }
-    let size = told + (form::LENGTH_LEN + m.len());
-    if is_full(WRITTEN, file.len(), size, w.count + 1) {
-        return refuse(Verdict::Full);
-    }
-    put_record(file, told, m);
-    Kept {
-        verdict: Verdict::Accepted,
-        size: size,
-    }
+    answer(added(file, told, m))
 }
 
-// The index of the records before `size`, stored behind them: each record's offset and Session ID.
+// The index of the records before `size`, stored behind them: each record's offset and Session ID. A `while`, since no index is counted:
+// `at` steps by the records' own sizes.
 fn put_index(file: &mut [u8], f: Form, size: usize)
     requires { (is_whole (messages_to file.old size) ≡ true)
         × (size + entry_size f * length (listed (messages_to file.old size)) ≤ length file.old) }
     ensures { file.new ≡ sets file.old size (index_bytes f 0 (listed (messages_to file.old size))) }
 {
-    let mut at: usize = 0;
-    let mut to: usize = size;
+    let mut at = 0;
+    let mut to = size;
     while at < size {
         let k = records::size_at(file, at);
         let session = records::session_at(file, at);
@@ -105,6 +106,7 @@ fn put_index(file: &mut [u8], f: Form, size: usize)
 }
 
 // The trailer at `to`: the index's offset, the number of entries, the form number.
+#[tactic(auto, using(crate::proofs::AddLaws::trailer_stores))]
 fn put_trailer(file: &mut [u8], to: usize, f: Form, at: usize, n: usize)
     requires { to + 8 ≤ length file.old }
     ensures { file.new ≡ sets file.old to (trailer_bytes f at n) }
@@ -114,24 +116,25 @@ fn put_trailer(file: &mut [u8], to: usize, f: Form, at: usize, n: usize)
     number::write_number(file, to + form::FORM_AT, 2, f.number());
 }
 
+// The size of a file that is closed, whose records have `told` bytes, or why it is not.
+fn closed(file: &mut [u8], told: usize) -> Result<usize, Verdict>
+    ensures { (kept_as result ≡ kept_by told (closing file.old told))
+        × (file.new ≡ file_by file.old told (closing file.old told)) }
+{
+    let count = records::walk(file, told).ok_or(Verdict::Records)?;
+    if is_full(WRITTEN, file.len(), told, count) {
+        return Err(Verdict::Full);
+    }
+    put_index(file, WRITTEN, told);
+    let to = told + WRITTEN.entry_size() * count;
+    put_trailer(file, to, WRITTEN, told, count);
+    Ok(to + form::TRAILER_LEN)
+}
+
 // Closes a file whose records have `told` bytes. Index and trailer alone are written.
 pub fn close(file: &mut [u8], told: usize) -> Kept
     ensures { (result ≡ kept_by told (closing file.old told))
         × (file.new ≡ file_by file.old told (closing file.old told)) }
 {
-    let w = records::walk(file, told);
-    if !w.whole {
-        return refuse(Verdict::Records);
-    }
-    let n = w.count;
-    if is_full(WRITTEN, file.len(), told, n) {
-        return refuse(Verdict::Full);
-    }
-    put_index(file, WRITTEN, told);
-    let to = told + WRITTEN.entry_size() * n;
-    put_trailer(file, to, WRITTEN, told, n);
-    Kept {
-        verdict: Verdict::Accepted,
-        size: to + form::TRAILER_LEN,
-    }
+    answer(closed(file, told))
 }

@@ -1,13 +1,13 @@
 // Reading the n-th message of a file, and finding the first of a Session ID. Both refuse as opening does.
 
-ghost use Rattle.std.specs.Prelude.{◌≡◌, ◌≤◌, ◌<◌};
+ghost use Rattle.std.specs.Prelude.{◌≡◌, unwrap_or};
 ghost use Rattle.wire.specs.Part.{part_of};
-ghost use Rattle.archive.specs.Opening.{archive_of, opening_by};
-ghost use Rattle.archive.specs.Finding.{none_found, reading_by, first_in, finding_by};
-ghost use Rattle.archive.specs.Walking.{InForm, Opened};
+ghost use Rattle.archive.specs.Opening.{archive_of};
+ghost use Rattle.archive.specs.Finding.{reading_by, first_in, finding_by};
+ghost use Rattle.archive.specs.Walking.{InForm, Opened, opened_by, found_as};
 
 use super::form::Form;
-use super::open::Opening;
+use super::open::Index;
 use super::verdict::Verdict;
 use super::{form, open};
 use wire::id::SessionId;
@@ -29,81 +29,90 @@ pub fn message_part(file: &[u8], found: Found) -> &[u8]
     part::part_of(file, found.message)
 }
 
-// The answer to a refused call.
-fn refuse(v: Verdict) -> Found
-    ensures { result ≡ none_found v }
-{
-    Found {
-        verdict: v,
-        number: 0,
-        message: Part { at: 0, len: 0 },
-    }
+// A record that was found: its number from 1, and its message as a part of the file.
+#[derive(Clone, Copy)]
+struct Record {
+    number: usize,
+    message: Part,
 }
 
-// The n-th message of a file that was opened in a form, whose index stands at `index`.
-fn nth(file: &[u8], f: Form, index: usize, entries: usize, n: usize) -> Found
-    requires { Opened file.now f index entries × (0 < n) × (n ≤ entries) }
-    ensures { result ≡ reading_by n (archive_of file.now) }
+// The answer to a call that found a record, or was refused.
+fn answer(outcome: Result<Record, Verdict>) -> Found
+    ensures { result ≡ found_as outcome }
 {
-    let entry = index + f.entry_size() * (n - 1);
-    let at = number::read_number(file, entry, f.offset_width()) as usize;
-    Found {
-        verdict: Verdict::Accepted,
-        number: n,
-        message: Part {
-            at: at + form::LENGTH_LEN,
-            len: header::two_at(file, at) as usize,
+    match outcome {
+        Ok(record) => Found {
+            verdict: Verdict::Accepted,
+            number: record.number,
+            message: record.message,
+        },
+        Err(verdict) => Found {
+            verdict,
+            number: 0,
+            message: Part { at: 0, len: 0 },
         },
     }
 }
 
-// The number from 1 of the first entry with a Session ID, 0 where none has it or no file was opened.
-fn first_of(file: &[u8], f: Form, o: Opening, session: SessionId) -> usize
-    requires { (o ≡ opening_by (archive_of file.now)) × InForm f (archive_of file.now) }
-    ensures { result ≡ first_in session.0 (archive_of file.now) }
+// The n-th message of a file that was opened in a form, if it has so many.
+fn nth(file: &[u8], f: Form, index: Index, n: usize) -> Result<Record, Verdict>
+    requires { Opened file.now f index.at index.entries }
+    ensures { found_as result ≡ reading_by n (archive_of file.now) }
 {
-    let mut i: usize = 0;
-    let mut at = o.size + f.offset_width();
-    while i < o.entries {
-        if header::two_at(file, at) == session.0 {
-            return i + 1;
-        }
-        at += f.entry_size();
-        i += 1;
+    if n == 0 || index.entries < n {
+        return Err(Verdict::NoRecord);
     }
-    0
+    let entry = index.at + f.entry_size() * (n - 1);
+    let at = number::read_number(file, entry, f.offset_width()) as usize;
+    Ok(Record {
+        number: n,
+        message: Part {
+            at: at + form::LENGTH_LEN,
+            len: usize::from(header::two_at(file, at)),
+        },
+    })
 }
 
-// The n-th message of a file that was opened or refused.
-fn shown(file: &[u8], o: Opening, n: usize) -> Found
-    requires { o ≡ opening_by (archive_of file.now) }
-    ensures { result ≡ reading_by n (archive_of file.now) }
+// The number from 1 of the first entry with a Session ID.
+fn first_of(file: &[u8], f: Form, index: Index, session: SessionId) -> Option<usize>
+    requires { Opened file.now f index.at index.entries }
+    ensures { unwrap_or result 0 ≡ first_in session.0 (archive_of file.now) }
 {
-    let why = o.verdict;
-    if why.number() != 0 {
-        return refuse(why);
+    for i in 0..index.entries {
+        let entry = index.at + f.entry_size() * i;
+        if header::two_at(file, entry + f.offset_width()) == session.0 {
+            return Some(i + 1);
+        }
     }
-    if n == 0 {
-        return refuse(Verdict::NoRecord);
-    }
-    if o.entries < n {
-        return refuse(Verdict::NoRecord);
-    }
-    nth(file, Form::One, o.size, o.entries, n)
+    None
+}
+
+// The n-th message of a file.
+fn shown(file: &[u8], n: usize) -> Result<Record, Verdict>
+    ensures { found_as result ≡ reading_by n (archive_of file.now) }
+{
+    nth(file, Form::One, open::opened(file)?, n)
+}
+
+// The first message of a file with a Session ID.
+fn sought(file: &[u8], session: SessionId) -> Result<Record, Verdict>
+    ensures { found_as result ≡ finding_by session.0 (archive_of file.now) }
+{
+    let index = open::opened(file)?;
+    let n = first_of(file, Form::One, index, session).ok_or(Verdict::NoRecord)?;
+    nth(file, Form::One, index, n)
 }
 
 // Reads the n-th message of a file, from 1.
 pub fn read(file: &[u8], n: usize) -> Found
     ensures { result ≡ reading_by n (archive_of file.now) }
 {
-    shown(file, open::open(file), n)
+    answer(shown(file, n))
 }
 
 // Finds the first message of a file with a Session ID.
 pub fn find(file: &[u8], session: SessionId) -> Found
     ensures { result ≡ finding_by session.0 (archive_of file.now) }
 {
-    let o = open::open(file);
-    let n = first_of(file, Form::One, o, session);
-    shown(file, o, n)
+    answer(sought(file, session))
 }

@@ -19,6 +19,7 @@ pub const ENTRIES_AT: usize = 4;
 
 pub const FORM_AT: usize = 6;
 
+#[tactic(auto, using(crate::proofs::FormLaws::one_form))]
 impl Form {
     // The form number in the trailer.
     pub fn number(self) -> u64

@@ -4,8 +4,8 @@ ghost use Rattle.std.specs.Prelude.{◌≡◌, ◌+◌, ◌*◌, ◌≤◌, ◌<
 ghost use Rattle.std.proofs.Math.Seq.{slice};
 ghost use Rattle.archive.specs.Form.{entry_size, limit, index_bytes};
 ghost use Rattle.archive.specs.Records.{messages_to};
-ghost use Rattle.archive.specs.Opening.{refused, same, checked, archive_of, opening_by};
-ghost use Rattle.archive.specs.Walking.{is_whole, listed, entry_agrees, Trailed};
+ghost use Rattle.archive.specs.Opening.{same, checked, archive_of, opening_by};
+ghost use Rattle.archive.specs.Walking.{is_whole, listed, entry_agrees, Trailed, opened_by, opening_as};
 
 use super::form::Form;
 use super::verdict::Verdict;
@@ -20,14 +20,28 @@ pub struct Opening {
     pub entries: usize,
 }
 
-// The answer to a refused opening.
-fn refuse(v: Verdict) -> Opening
-    ensures { result ≡ opening_by (refused v) }
+// What was found in a file that was opened: the records' size, behind which the index stands, and its number of entries.
+#[derive(Clone, Copy)]
+pub struct Index {
+    pub at: usize,
+    pub entries: usize,
+}
+
+// The answer to opening a file that has an index, or was refused.
+fn answer(outcome: Result<Index, Verdict>) -> Opening
+    ensures { result ≡ opening_as outcome }
 {
-    Opening {
-        verdict: v,
-        size: 0,
-        entries: 0,
+    match outcome {
+        Ok(index) => Opening {
+            verdict: Verdict::Accepted,
+            size: index.at,
+            entries: index.entries,
+        },
+        Err(verdict) => Opening {
+            verdict,
+            size: 0,
+            entries: 0,
+        },
     }
 }
 
@@ -37,20 +51,19 @@ fn entry_agrees(file: &[u8], f: Form, to: usize, at: usize) -> bool
     ensures { result ≡ entry_agrees file.now f to at }
 {
     let w = f.offset_width();
-    if number::read_number(file, to, w) != at as u64 {
-        return false;
-    }
-    header::two_at(file, to + w) == records::session_at(file, at).0
+    number::read_number(file, to, w) == at as u64
+        && header::two_at(file, to + w) == records::session_at(file, at).0
 }
 
-// Whether the entries from `size` to `end` are those of the records before `size`. The walk has found them whole, and as many.
+// Whether the entries from `size` to `end` are those of the records before `size`. The walk has found them whole, and as many. A `while`,
+// since no index is counted: `at` steps by the records' own sizes.
 fn index_agrees(file: &[u8], f: Form, size: usize, end: usize) -> bool
     requires { (is_whole (messages_to file.now size) ≡ true) × (size ≤ limit f)
         × (size + entry_size f * length (listed (messages_to file.now size)) ≡ end) × (end ≤ length file.now) }
     ensures { result ≡ same (slice size end file.now) (index_bytes f 0 (listed (messages_to file.now size))) }
 {
-    let mut at: usize = 0;
-    let mut to: usize = size;
+    let mut at = 0;
+    let mut to = size;
     while at < size {
         if !entry_agrees(file, f, to, at) {
             return false;
@@ -62,49 +75,45 @@ fn index_agrees(file: &[u8], f: Form, size: usize, end: usize) -> bool
 }
 
 // 52, for a file of a form whose trailer at `end` says that n entries stand at `size`.
-fn checked(file: &[u8], f: Form, size: usize, n: usize, end: usize) -> Opening
+fn checked(file: &[u8], f: Form, size: usize, n: usize, end: usize) -> Result<Index, Verdict>
     requires { Trailed file.now f size n end }
-    ensures { result ≡ opening_by (checked file.now f (messages_to file.now size)) }
+    ensures { result ≡ opened_by (checked file.now f (messages_to file.now size)) }
 {
-    let w = records::walk(file, size);
-    if !w.whole {
-        return refuse(Verdict::Records);
+    let count = records::walk(file, size).ok_or(Verdict::Records)?;
+    if count != n || size + f.entry_size() * n != end || !index_agrees(file, f, size, end) {
+        return Err(Verdict::Records);
     }
-    if w.count != n {
-        return refuse(Verdict::Records);
-    }
-    if size + f.entry_size() * n != end {
-        return refuse(Verdict::Records);
-    }
-    if !index_agrees(file, f, size, end) {
-        return refuse(Verdict::Records);
-    }
-    Opening {
-        verdict: Verdict::Accepted,
-        size: size,
+    Ok(Index {
+        at: size,
         entries: n,
+    })
+}
+
+// The index of a file, or why it is no archive.
+pub(crate) fn opened(file: &[u8]) -> Result<Index, Verdict>
+    ensures { result ≡ opened_by (archive_of file.now) }
+{
+    if file.len() < form::TRAILER_LEN {
+        return Err(Verdict::Trailer);
     }
+    let end = file.len() - form::TRAILER_LEN;
+    let f = Form::One;
+    if u64::from(header::two_at(file, end + form::FORM_AT)) != f.number()
+        || f.limit() < file.len()
+    {
+        return Err(Verdict::Trailer);
+    }
+    let at = number::read_number(file, end, 4) as usize;
+    let n = usize::from(header::two_at(file, end + form::ENTRIES_AT));
+    if end < at + f.entry_size() * n {
+        return Err(Verdict::Trailer);
+    }
+    checked(file, f, at, n, end)
 }
 
 // Opens a file: any bytes get a verdict, and an accepted file the records' size and the number of entries.
 pub fn open(file: &[u8]) -> Opening
     ensures { result ≡ opening_by (archive_of file.now) }
 {
-    if file.len() < form::TRAILER_LEN {
-        return refuse(Verdict::Trailer);
-    }
-    let end = file.len() - form::TRAILER_LEN;
-    let f = Form::One;
-    if header::two_at(file, end + form::FORM_AT) as u64 != f.number() {
-        return refuse(Verdict::Trailer);
-    }
-    if f.limit() < file.len() {
-        return refuse(Verdict::Trailer);
-    }
-    let at = number::read_number(file, end, 4) as usize;
-    let n = header::two_at(file, end + form::ENTRIES_AT) as usize;
-    if end < at + f.entry_size() * n {
-        return refuse(Verdict::Trailer);
-    }
-    checked(file, f, at, n, end)
+    answer(opened(file))
 }

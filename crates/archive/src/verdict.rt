@@ -3,14 +3,14 @@
 ghost use Rattle.std.specs.Prelude.{◌≡◌};
 ghost use Rattle.archive.specs.Verdict.{verdict_number};
 
-#[derive(Clone, Copy)]
+#[derive(Clone, Copy, PartialEq, Eq, Debug)]
 pub enum Verdict {
-    Accepted,
-    Full,
-    Trailer,
-    Records,
-    NoMessage,
-    NoRecord,
+    Accepted = 0,
+    Full = 50,
+    Trailer = 51,
+    Records = 52,
+    NoMessage = 53,
+    NoRecord = 54,
 }
 
 impl Verdict {
@@ -18,13 +18,6 @@ impl Verdict {
     pub fn number(self) -> u8
         ensures { result ≡ verdict_number self }
     {
-        match self {
-            Verdict::Accepted => 0,
-            Verdict::Full => 50,
-            Verdict::Trailer => 51,
-            Verdict::Records => 52,
-            Verdict::NoMessage => 53,
-            Verdict::NoRecord => 54,
-        }
+        self as u8
     }
 }

@@ -2,172 +2,156 @@
 
 #![tactic(auto)]
 
-ghost use Rattle.std.specs.Prelude.{◌≡◌, ◌+◌, ◌≤◌, length};
+ghost use Rattle.std.specs.Prelude.{◌^◌, ◌<◌, ◌≤◌, IfOk, length, vec_len};
 
 use archive::add::Kept;
 use archive::find::Found;
 use archive::open::Opening;
 use archive::{add, find, open};
+use std::alloc::Global;
+use std::io;
+use std::io::{Read, Write};
 use wire::id::SessionId;
-use wire::number;
 
-// Standard input and standard output.
-const IN: i32 = 0;
-
-const OUT: i32 = 1;
+// More bytes than a case's file or message has.
+const ROOM: u32 = 131072;
 
 // More cases than an input has.
 const CASES_MOST: usize = 1000000000;
 
 // What is done in a case.
-const ADD: u8 = 1;
+#[derive(Clone, Copy)]
+enum Operation {
+    Add,
+    Close,
+    Open,
+    Read,
+    Find,
+}
 
-const CLOSE: u8 = 2;
+impl From<u8> for Operation {
+    fn from(code: u8) -> Operation {
+        match code {
+            1 => Operation::Add,
+            2 => Operation::Close,
+            3 => Operation::Open,
+            4 => Operation::Read,
+            _ => Operation::Find,
+        }
+    }
+}
 
-const OPEN: u8 = 3;
-
-const READ: u8 = 4;
+// A case: an operation with its file, its number (a size, a message's number or a Session ID) and its message.
+#[derive(Drop)]
+struct Case {
+    operation: Operation,
+    file: Vec<u8>,
+    number: u64,
+    message: Vec<u8>,
+    ghost short: { vec_len file ≤ 131072 },
+}
 
 // The answer to a case but for the file's bytes: a verdict's number and three numbers, 0 where an operation has no such.
 #[derive(Clone, Copy)]
 struct Answer {
     verdict: u8,
-    first: u64,
-    second: u64,
-    third: u64,
+    numbers: [u64; 3],
 }
 
-// More zeros than a case's file or message has bytes.
-fn room() -> [u8; 131072]
-    ensures { 131072 ≡ length result }
+impl From<Kept> for Answer {
+    fn from(kept: Kept) -> Answer {
+        Answer {
+            verdict: kept.verdict.number(),
+            numbers: [kept.size as u64, 0, 0],
+        }
+    }
+}
+
+impl From<Opening> for Answer {
+    fn from(opening: Opening) -> Answer {
+        Answer {
+            verdict: opening.verdict.number(),
+            numbers: [opening.size as u64, opening.entries as u64, 0],
+        }
+    }
+}
+
+impl From<Found> for Answer {
+    fn from(found: Found) -> Answer {
+        let message = found.message;
+        Answer {
+            verdict: found.verdict.number(),
+            numbers: [found.number as u64, message.at as u64, message.len as u64],
+        }
+    }
+}
+
+// So many bytes of the input.
+fn read_bytes<const N: usize>(input: &mut impl Read) -> io::Result<[u8; N]> {
+    let mut bytes = [0; N];
+    input.read_exact(&mut bytes)?;
+    Ok(bytes)
+}
+
+// A length of four bytes, and so many bytes.
+fn read_run(alloc: Global, input: &mut impl Read) -> io::Result<Vec<u8>>
+    ensures { IfOk result (λ run. vec_len run ≤ 131072) }
 {
-    [0; 131072]
+    let len = u32::from_be_bytes(read_bytes(input)?).min(ROOM);
+    let mut run = vec![in alloc; 0; len as usize]?;
+    input.read_exact(&mut run)?;
+    Ok(run)
 }
 
-// Fills a buffer from standard input; false where the input ends before.
-fn filled(buf: &mut [u8]) -> bool
-    ensures { length buf.new ≡ length buf.old }
-{
-    let n = buf.len();
-    io::read_full(IN, buf) == n
+// The case that stands next; an input that has none is at its end.
+fn read_case(alloc: Global, input: &mut impl Read) -> io::Result<Case> {
+    let [code]: [u8; 1] = read_bytes(input)?;
+    Ok(Case {
+        operation: Operation::from(code),
+        file: read_run(alloc, input)?,
+        number: u64::from_be_bytes(read_bytes(input)?),
+        message: read_run(alloc, input)?,
+    })
 }
 
-// A length of four bytes.
-fn length_at(b: &[u8], at: usize) -> isize
-    requires { at + 4 ≤ length b.now }
-{
-    number::read_number(b, at, 4) as isize
-}
-
-// What adding and closing answer.
-fn kept(k: Kept) -> Answer {
-    let v = k.verdict;
-    Answer {
-        verdict: v.number(),
-        first: k.size as u64,
-        second: 0,
-        third: 0,
+// Does what a case asks.
+fn answered(case: &mut Case) -> Answer {
+    let number = case.number as usize;
+    match case.operation {
+        Operation::Add => Answer::from(add::add(&mut case.file, number, &case.message)),
+        Operation::Close => Answer::from(add::close(&mut case.file, number)),
+        Operation::Open => Answer::from(open::open(&case.file)),
+        Operation::Read => Answer::from(find::read(&case.file, number)),
+        Operation::Find => Answer::from(find::find(&case.file, SessionId((number % 65536) as u16))),
     }
-}
-
-// What opening answers.
-fn opened(o: Opening) -> Answer {
-    let v = o.verdict;
-    Answer {
-        verdict: v.number(),
-        first: o.size as u64,
-        second: o.entries as u64,
-        third: 0,
-    }
-}
-
-// What reading and finding answer.
-fn found(f: Found) -> Answer {
-    let v = f.verdict;
-    let m = f.message;
-    Answer {
-        verdict: v.number(),
-        first: f.number as u64,
-        second: m.at as u64,
-        third: m.len as u64,
-    }
-}
-
-// Does what a case asks of a file.
-fn answered(op: u8, file: &mut [u8], n: u64, message: &[u8]) -> Answer {
-    if op == ADD {
-        return kept(add::add(file, n as usize, message));
-    }
-    if op == CLOSE {
-        return kept(add::close(file, n as usize));
-    }
-    if op == OPEN {
-        return opened(open::open(file));
-    }
-    if op == READ {
-        return found(find::read(file, n as usize));
-    }
-    found(find::find(file, SessionId((n % 65536) as u16)))
 }
 
 // Writes an answer and the file's bytes.
-fn show(a: Answer, file: &[u8]) -> bool {
-    let mut out = [0u8; 29];
-    out[0] = a.verdict;
-    number::write_number(&mut out, 1, 8, a.first);
-    number::write_number(&mut out, 9, 8, a.second);
-    number::write_number(&mut out, 17, 8, a.third);
-    number::write_number(&mut out, 25, 4, file.len() as u64);
-    io::write_all(OUT, &out);
-    io::write_all(OUT, file)
+fn write_answer(out: &mut impl Write, answer: Answer, file: &[u8]) -> io::Result<()>
+    requires { length file.now < 2 ^ 32 }
+{
+    out.write_all(&[answer.verdict])?;
+    for number in answer.numbers {
+        out.write_all(&number.to_be_bytes())?;
+    }
+    out.write_all(&(file.len() as u32).to_be_bytes())?;
+    out.write_all(file)
 }
 
-// Does what a case asks of a file's first bytes, and shows the answer and these bytes.
-fn run_on(op: u8, file: &mut [u8], size: isize, n: u64, message: &[u8], len: isize) -> bool {
-    let most = io::count(size, file);
-    let end = io::count(len, message);
-    let a = answered(op, &mut file[..most], n, &message[..end]);
-    let shown = io::count(size, file);
-    show(a, &file[..shown])
+// Runs the case that stands next.
+fn run_case(alloc: Global, input: &mut impl Read, out: &mut impl Write) -> io::Result<()> {
+    let mut case = read_case(alloc, input)?;
+    let answer = answered(&mut case);
+    write_answer(out, answer, &case.file)
 }
 
-// Fills a buffer's first bytes from standard input.
-fn filled_to(buf: &mut [u8], size: isize) -> bool {
-    let most = io::count(size, buf);
-    filled(&mut buf[..most])
-}
-
-// Runs the case that stands next; false where there is none, or the output is gone.
-fn run_case() -> bool {
-    let mut head = [0u8; 5];
-    if !filled(&mut head) {
-        return false;
-    }
-    let mut file = room();
-    let size = length_at(&head, 1);
-    if !filled_to(&mut file, size) {
-        return false;
-    }
-    let mut asked = [0u8; 12];
-    if !filled(&mut asked) {
-        return false;
-    }
-    let mut message = room();
-    let len = length_at(&asked, 8);
-    if !filled_to(&mut message, len) {
-        return false;
-    }
-    let n = number::read_number(&asked, 0, 8);
-    run_on(head[0], &mut file, size, n, &message, len)
-}
-
-// Runs case after case; more than an input can have are none.
-fn main() {
-    let mut left = CASES_MOST;
-    while 0 < left {
-        if !run_case() {
+// Runs case after case, up to the input's end or a failed write.
+fn main(rt: HostRuntime) {
+    let mut input = rt.stdin();
+    let mut out = rt.stdout();
+    for _ in 0..CASES_MOST {
+        if run_case(rt.alloc(), &mut input, &mut out).is_err() {
             return;
         }
-        left -= 1;
     }
 }

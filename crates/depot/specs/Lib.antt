@@ -1,1 +1,3 @@
 pub mod Layout
+pub mod Record
+pub mod Asked

@@ -1,6 +1,7 @@
 // What stands where in a file, for any bytes: the trailer's fields, and the record at a place. For this program's own files.
 
-ghost use Rattle.std.specs.Prelude.{◌≡◌, ◌+◌, ◌*◌, ◌<◌, ◌≤◌};
+ghost use Rattle.std.specs.Prelude.{◌≡◌, ◌+◌, ◌*◌, ◌^◌, ◌<◌, ◌≤◌, IfSome, IfNone, length};
+ghost use Rattle.wire.specs.Header.{field_at};
 ghost use Rattle.wire.specs.Part.{part, part_of};
 ghost use Rattle.archive.specs.Opening.{trailer_at};
 ghost use Rattle.depot.specs.Layout.{field_or, TrailerOf};
@@ -8,35 +9,39 @@ ghost use Rattle.depot.specs.Layout.{field_or, TrailerOf};
 use archive::form;
 use archive::form::Form;
 use wire::part::Part;
-use wire::{header, number, part};
+use wire::{number, part};
 
 // The form of the files.
 pub const FORM: Form = Form::One;
 
-// The number of two bytes at a place, and 0 past the end.
+// One byte more than an archive may have, which is one more than a message may have too. Of a longer file no more is read.
+pub const ROOM: usize = 65536;
+
+// The number of so many bytes at a place, where they are there.
+#[tactic(auto, unfolding(wire::specs::Header::field_at))]
+fn number_at(d: &[u8], at: usize, width: usize) -> Option<u64>
+    requires { (0 < width) × (width ≤ 8) }
+    ensures there { IfSome result (λ n. (at + width ≤ length d.now) × (n ≡ field_at at width d.now) × (n < 256 ^ width)) }
+    ensures missing { IfNone result (length d.now < at + width) }
+{
+    if d.len().saturating_sub(at) < width {
+        return None;
+    }
+    Some(number::read_number(d, at, width))
+}
+
+// The number of two bytes at a place, and 0 past the end: so `field_or` counts, by which the contracts here speak.
 pub fn two_at(d: &[u8], at: usize) -> usize
     ensures { (result ≡ field_or at 2 d.now) × (result < 65536) }
 {
-    if d.len() < at {
-        return 0;
-    }
-    if d.len() - at < 2 {
-        return 0;
-    }
-    header::two_at(d, at) as usize
+    number_at(d, at, 2).unwrap_or(0) as usize
 }
 
 // The same of four bytes.
 pub fn four_at(d: &[u8], at: usize) -> usize
     ensures { (result ≡ field_or at 4 d.now) × (result < 4294967296) }
 {
-    if d.len() < at {
-        return 0;
-    }
-    if d.len() - at < 4 {
-        return 0;
-    }
-    number::read_number(d, at, 4) as usize
+    number_at(d, at, 4).unwrap_or(0) as usize
 }
 
 // The bytes of an index of so many entries. For this program's own words: it counts no more entries than two bytes hold and one.
@@ -60,10 +65,7 @@ pub struct Trailer {
 fn trailer_at(file: &[u8]) -> usize
     ensures { result ≡ trailer_at file.now }
 {
-    if file.len() < form::TRAILER_LEN {
-        return 0;
-    }
-    file.len() - form::TRAILER_LEN
+    file.len().saturating_sub(form::TRAILER_LEN)
 }
 
 // The trailer of a file that has one.

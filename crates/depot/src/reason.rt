@@ -1,248 +1,243 @@
-// Why a file or a message is refused, in words. The library's verdict decides; here the first thing that is wrong is looked for, in the
-// order in which the library tests.
+// Why a file or a message is refused, in words. The library's verdict decides; its reason says what is first wrong, where that was found.
 
-ghost use Rattle.std.specs.Prelude.{◌<◌};
-
-use super::layout::{FORM, Trailer};
-use super::{complain, layout, phrase};
 use archive::verdict::Verdict;
-use archive::{form, open, records};
-use text::say::ERR;
-use wire::header;
+use std::fmt;
 
-// Where the index ends, by what the trailer says.
-fn index_end(t: Trailer) -> usize
-    requires { (t.size < 4294967296) × (t.entries < 65536) }
-{
-    t.size + layout::index_size(t.entries)
+// Why bytes are no message: they are over the most, or have no room for a header, or their Length is another than their size asks for.
+#[derive(Clone, Copy)]
+pub enum MessageFault {
+    Long,
+    Short {
+        size: usize,
+    },
+    Length {
+        size: usize,
+        told: usize,
+        due: usize,
+    },
 }
 
-// Why a file gets 51.
-fn of_trailer(file: &[u8]) {
-    let len = file.len();
-    if len < form::TRAILER_LEN {
-        phrase::line(ERR, phrase::SHORT_FILE, &[len as u64]);
-        return;
-    }
-    if FORM.limit() < len {
-        phrase::line(ERR, phrase::LONG_FILE, &[]);
-        return;
-    }
-    let t = layout::trailer_of(file);
-    if t.form as u64 != FORM.number() {
-        phrase::line(ERR, phrase::OTHER_FORM, &[t.form as u64]);
-        return;
-    }
-    phrase::line(
-        ERR,
-        phrase::INDEX_PAST,
-        &[
-            t.size as u64,
-            t.entries as u64,
-            index_end(t) as u64,
-            t.at as u64,
-        ],
-    );
-}
-
-// Why bytes are no message.
-pub fn of_message(m: &[u8]) {
-    let len = m.len();
-    if records::MESSAGE_MOST < len {
-        phrase::line(ERR, phrase::LONG_MESSAGE, &[]);
-        return;
-    }
-    if len < header::LEN {
-        phrase::line(ERR, phrase::NO_SIZE, &[len as u64]);
-        return;
-    }
-    phrase::line(
-        ERR,
-        phrase::OTHER_LENGTH,
-        &[
-            len as u64,
-            layout::four_at(m, header::LENGTH_AT) as u64,
-            (len - 8) as u64,
-        ],
-    );
-}
-
-// Whether the record at a place ends before `size`, and has a message.
-fn is_record(file: &[u8], at: usize, size: usize) -> bool
-    requires { at < 4294967296 }
-{
-    layout::record_end(file, at) <= size && records::is_message(layout::message_at(file, at))
-}
-
-// Why the n-th record, at a place before `size`, is none of a message.
-fn of_record(file: &[u8], size: usize, n: usize, at: usize)
-    requires { at < 4294967296 }
-{
-    if size < at + form::LENGTH_LEN {
-        phrase::line(ERR, phrase::LENGTH_CUT, &[n as u64, at as u64, size as u64]);
-        return;
-    }
-    if size < layout::record_end(file, at) {
-        phrase::line(
-            ERR,
-            phrase::LENGTH_PAST,
-            &[
-                n as u64,
-                at as u64,
-                layout::two_at(file, at) as u64,
-                size as u64,
-            ],
-        );
-        return;
-    }
-    phrase::write(ERR, phrase::RECORD, &[n as u64, at as u64]);
-    of_message(layout::message_at(file, at));
-}
-
-// Says of the first record before `size` that is none of a message why it is none.
-fn of_walk(file: &[u8], size: usize)
-    requires { size < 4294967296 }
-{
-    let mut at: usize = 0;
-    let mut n: usize = 1;
-    while at < size {
-        if !is_record(file, at, size) {
-            of_record(file, size, n, at);
-            return;
+impl fmt::Display for MessageFault {
+    fn fmt<W: fmt::Write>(&self, f: &mut fmt::Formatter<W>) -> fmt::Result {
+        match *self {
+            MessageFault::Long => f.write_str("size over 65535"),
+            MessageFault::Short { size } => write!(f, "size {size} is not 16 to 65535"),
+            MessageFault::Length { size, told, due } => {
+                write!(f, "size {size} and Length {told}, which is not {due}")
+            }
         }
-        at = layout::record_end(file, at);
-        n += 1;
     }
 }
 
-// The Session ID in the index entry at a place.
-fn entry_session(file: &[u8], to: usize) -> usize
-    requires { to < 17179869184 }
-    ensures { result < 65536 }
-{
-    layout::two_at(file, to + FORM.offset_width())
+// What is wrong with a file's size or its trailer.
+#[derive(Clone, Copy)]
+pub enum TrailerFault {
+    Short {
+        size: usize,
+    },
+    Long,
+    Form {
+        form: usize,
+    },
+    Index {
+        offset: usize,
+        entries: usize,
+        end: usize,
+        start: usize,
+    },
 }
 
-// The Session ID in the record at a place.
-fn record_session(file: &[u8], at: usize) -> usize
-    requires { at < 4294967296 }
-    ensures { result < 65536 }
-{
-    layout::two_at(layout::message_at(file, at), header::SESSION_AT)
-}
-
-// Whether the index entry at `to` is that of the record at `at`.
-fn is_entry(file: &[u8], to: usize, at: usize) -> bool
-    requires { (to < 17179869184) × (at < 4294967296) }
-{
-    layout::two_at(file, to) == at && entry_session(file, to) == record_session(file, at)
-}
-
-// Why the n-th index entry, at `to`, is not that of the record at `at`.
-fn of_entry(file: &[u8], n: usize, to: usize, at: usize)
-    requires { (to < 17179869184) × (at < 4294967296) }
-{
-    let offset = layout::two_at(file, to);
-    if offset != at {
-        phrase::line(
-            ERR,
-            phrase::OTHER_OFFSET,
-            &[n as u64, offset as u64, at as u64],
-        );
-        return;
-    }
-    phrase::line(
-        ERR,
-        phrase::OTHER_SESSION,
-        &[
-            n as u64,
-            entry_session(file, to) as u64,
-            record_session(file, at) as u64,
-        ],
-    );
-}
-
-// Says of the first index entry that is not its record's why it is not.
-fn of_index(file: &[u8], size: usize)
-    requires { size < 4294967296 }
-{
-    let mut at: usize = 0;
-    let mut to: usize = size;
-    let mut n: usize = 1;
-    while at < size {
-        if !is_entry(file, to, at) {
-            of_entry(file, n, to, at);
-            return;
+impl fmt::Display for TrailerFault {
+    fn fmt<W: fmt::Write>(&self, f: &mut fmt::Formatter<W>) -> fmt::Result {
+        match *self {
+            TrailerFault::Short { size } => write!(
+                f,
+                "the file has {size} of the trailer's 8 bytes"
+            ),
+            TrailerFault::Long => f.write_str(
+                "the file has over 65535 bytes, the most of an archive",
+            ),
+            TrailerFault::Form { form } => write!(f, "form number {form} is not 1"),
+            TrailerFault::Index {
+                offset,
+                entries,
+                end,
+                start,
+            } => write!(
+                f,
+                "index offset {offset} and number of entries {entries} put the index's end at {end}, past the trailer's start at {start}"
+            ),
         }
-        at = layout::record_end(file, at);
-        to += FORM.entry_size();
-        n += 1;
     }
 }
 
-// Why a file gets 52.
-fn of_records(file: &[u8]) {
-    let t = layout::trailer_of(file);
-    let w = records::walk(file, t.size);
-    if !w.whole {
-        of_walk(file, t.size);
-        return;
-    }
-    if w.count != t.entries {
-        phrase::line(
-            ERR,
-            phrase::OTHER_COUNT,
-            &[t.entries as u64, w.count as u64],
-        );
-        return;
-    }
-    let end = index_end(t);
-    if end != t.at {
-        phrase::line(ERR, phrase::NOT_COVERED, &[end as u64, t.at as u64]);
-        return;
-    }
-    of_index(file, t.size);
+// What is wrong with a record: its length is cut off or reaches past the records' end, or its bytes are no message.
+#[derive(Clone, Copy)]
+pub enum RecordFault {
+    Cut { end: usize },
+    Past { len: usize, end: usize },
+    Message(MessageFault),
 }
 
-// Says that a file is refused in opening, and why.
-pub fn of_file(path: &[u8], v: Verdict, file: &[u8]) {
-    complain::of_verdict(path, v);
-    if v.number() == 51 {
-        of_trailer(file);
-        return;
+impl fmt::Display for RecordFault {
+    fn fmt<W: fmt::Write>(&self, f: &mut fmt::Formatter<W>) -> fmt::Result {
+        match *self {
+            RecordFault::Cut { end } => write!(
+                f,
+                ": its two bytes of length reach past the records' end at {end}"
+            ),
+            RecordFault::Past { len, end } => write!(
+                f,
+                ": its length {len} reaches past the records' end at {end}"
+            ),
+            RecordFault::Message(fault) => write!(f, " is no message: {fault}"),
+        }
     }
-    of_records(file);
 }
 
-// Says that there is no message of a number or a Session ID.
-pub fn of_none(path: &[u8], v: Verdict, what: usize, n: u64, file: &[u8]) {
-    let o = open::open(file);
-    complain::of_verdict(path, v);
-    phrase::line(ERR, what, &[n, o.entries as u64]);
+// What is wrong with a file's records, or with its index.
+#[derive(Clone, Copy)]
+pub enum RecordsFault {
+    Record {
+        number: usize,
+        at: usize,
+        fault: RecordFault,
+    },
+    Count {
+        told: usize,
+        found: usize,
+    },
+    Cover {
+        end: usize,
+        start: usize,
+    },
+    Offset {
+        number: usize,
+        told: usize,
+        found: usize,
+    },
+    Session {
+        number: usize,
+        told: usize,
+        found: usize,
+    },
 }
 
-// Says that a message is not added to the records of a file, which have `told` bytes so far, and why.
-pub fn of_added(path: &[u8], v: Verdict, file: &[u8], told: usize, m: &[u8]) {
-    complain::of_verdict(path, v);
-    if v.number() == 53 {
-        of_message(m);
-        return;
+impl fmt::Display for RecordsFault {
+    fn fmt<W: fmt::Write>(&self, f: &mut fmt::Formatter<W>) -> fmt::Result {
+        match *self {
+            RecordsFault::Record { number, at, fault } => write!(
+                f,
+                "record {number} at offset {at}{fault}"
+            ),
+            RecordsFault::Count { told, found } => {
+                write!(
+                    f,
+                    "the trailer's number of entries is {told}, and that of the records {found}"
+                )
+            }
+            RecordsFault::Cover { end, start } => {
+                write!(
+                    f,
+                    "the index ends at {end}, and the trailer starts at {start}"
+                )
+            }
+            RecordsFault::Offset {
+                number,
+                told,
+                found,
+            } => {
+                write!(
+                    f,
+                    "entry {number} says offset {told}, and its record is at {found}"
+                )
+            }
+            RecordsFault::Session {
+                number,
+                told,
+                found,
+            } => {
+                write!(
+                    f,
+                    "entry {number} says session {told}, and its record has {found}"
+                )
+            }
+        }
     }
-    phrase::line(ERR, phrase::NO_ROOM, &[needed(file, told, m)]);
 }
 
-// How many bytes an archive would have with one message more.
-fn needed(file: &[u8], told: usize, m: &[u8]) -> u64 {
-    if 65535 < told {
-        return 0;
+// What a message was looked for by.
+#[derive(Clone, Copy)]
+pub enum Asked {
+    Number(u64),
+    Session(u16),
+}
+
+impl fmt::Display for Asked {
+    fn fmt<W: fmt::Write>(&self, f: &mut fmt::Formatter<W>) -> fmt::Result {
+        match *self {
+            Asked::Number(number) => write!(f, "no message {number}"),
+            Asked::Session(session) => write!(f, "no message with session {session}"),
+        }
     }
-    if 65535 < m.len() {
-        return 0;
+}
+
+// What was first found wrong.
+#[derive(Clone, Copy)]
+pub enum Reason {
+    Room { needed: usize },
+    Trailer(TrailerFault),
+    Records(RecordsFault),
+    Message(MessageFault),
+    Missing { asked: Asked, among: usize },
+    Unclosed,
+}
+
+impl fmt::Display for Reason {
+    fn fmt<W: fmt::Write>(&self, f: &mut fmt::Formatter<W>) -> fmt::Result {
+        match *self {
+            Reason::Room { needed } => {
+                write!(
+                    f,
+                    "the archive would need {needed} bytes with it, and 65535 is the most"
+                )
+            }
+            Reason::Trailer(fault) => write!(f, "{fault}"),
+            Reason::Records(fault) => write!(f, "{fault}"),
+            Reason::Message(fault) => write!(f, "{fault}"),
+            Reason::Missing { asked, among } => write!(f, "{asked} among {among}"),
+            Reason::Unclosed => f.write_str("the archive cannot be closed"),
+        }
     }
-    let w = records::walk(file, told);
-    if 65535 < w.count {
-        return 0;
+}
+
+// A verdict that is no acceptance, and what was found wrong.
+#[derive(Clone, Copy)]
+pub struct Refusal {
+    pub verdict: Verdict,
+    pub reason: Option<Reason>,
+}
+
+// The word of a verdict.
+fn word(verdict: Verdict) -> &'static str {
+    match verdict {
+        Verdict::Accepted => "accepted",
+        Verdict::Full => "full",
+        Verdict::Trailer => "trailer",
+        Verdict::Records => "records",
+        Verdict::NoMessage => "no message",
+        Verdict::NoRecord => "no record",
     }
-    let size = told + form::LENGTH_LEN + m.len();
-    (size + layout::index_size(w.count + 1) + form::TRAILER_LEN) as u64
+}
+
+impl fmt::Display for Refusal {
+    fn fmt<W: fmt::Write>(&self, f: &mut fmt::Formatter<W>) -> fmt::Result {
+        let number = self.verdict.number();
+        let word = word(self.verdict);
+        write!(f, "verdict {number} {word}: ")?;
+        match self.reason {
+            Some(reason) => write!(f, "{reason}"),
+            None => Ok(()),
+        }
+    }
 }

@@ -1,18 +1,27 @@
 -- `archive::find::nth` meets its contract: the entry gives the record's offset, and the record its message's length.
-use mathlib.Core.Path.{refl}
+use mathlib.Core.Path.{refl, ◌∙◌}
 use native.Mathlib.Omega.{arith}
 use Rattle.wire.specs.Header.{field_at}
+use Rattle.archive.specs.Form.{offset_width}
 use Rattle.archive.proofs.FormLaws.{width_most}
-use Rattle.archive.proofs.FindLaws.{nth_entry, nth_there, nth_is}
+use Rattle.archive.proofs.FindLaws.{shown_zero, shown_past, nth_entry, nth_there, nth_is}
 use Rattle.archive.proofs.find.nth.Goals as goal
+use Rattle.archive.proofs.find.nth.Goals.{then-n-eq0-via-then-n-eq0, then-n-eq0-via-else-n-eq0+then-index-n}
+
+pub returns-then-n-eq0 : goal.returns-then-n-eq0
+returns-then-n-eq0 c =
+    elim c.then-n-eq0.branch [
+      | then-n-eq0-via-then-n-eq0 w ↦ shown_zero _ c.args.f _ _ c.requires _ w.if-n-eq0.true
+      | then-n-eq0-via-else-n-eq0+then-index-n w ↦ shown_past _ c.args.f _ _ c.requires _ w.if-index-n.true
+    ]
 
 pub overflow_mul-entry : goal.overflow_mul-entry
 overflow_mul-entry c =
     let p = c.requires in
     omega (
       arith,
-      nth_entry _ c.args.f _ _ p.0 (λ i. (c.type_inv.file i).fits) _ p.1 p.2
-          _ _ c.entry_size.ensures refl,
+      nth_entry c.args.file.now c.args.f c.args.index.at c.args.index.entries p (λ i. (c.type_inv.file i).fits) c.args.n (omega arith) (omega arith)
+          _ (offset_width c.args.f) c.entry_size.ensures refl,
     )
 
 pub overflow_add-entry : goal.overflow_add-entry
@@ -20,14 +29,14 @@ overflow_add-entry c =
     let p = c.requires in
     omega (
       arith,
-      nth_entry _ c.args.f _ _ p.0 (λ i. (c.type_inv.file i).fits) _ p.1 p.2
-          _ _ c.entry_size.ensures refl,
+      nth_entry c.args.file.now c.args.f c.args.index.at c.args.index.entries p (λ i. (c.type_inv.file i).fits) c.args.n (omega arith) (omega arith)
+          _ (offset_width c.args.f) c.entry_size.ensures refl,
     )
 
 pub read_number-at-requires : goal.read_number-at-requires
 read_number-at-requires c =
     let p = c.requires in (
-      nth_entry _ c.args.f _ _ p.0 (λ i. (c.type_inv.file i).fits) _ p.1 p.2
+      nth_entry c.args.file.now c.args.f c.args.index.at c.args.index.entries p (λ i. (c.type_inv.file i).fits) c.args.n (omega arith) (omega arith)
           _ _ c.entry_size.ensures c.offset_width.ensures,
       omega (arith, c.offset_width.ensures, width_most c.args.f),
     )
@@ -38,7 +47,7 @@ overflow_add-result c =
     let p = c.requires in
     omega (
       arith,
-      nth_there _ c.args.f _ _ p.0 (λ i. (c.type_inv.file i).fits) _ p.1 p.2
+      nth_there c.args.file.now c.args.f c.args.index.at c.args.index.entries p (λ i. (c.type_inv.file i).fits) c.args.n (omega arith) (omega arith)
           _ _ c.entry_size.ensures c.offset_width.ensures _ c.read_number-at.ensures.0,
     )
 
@@ -46,12 +55,12 @@ pub two_at-requires : goal.two_at-requires
 unfolding field_at
 two_at-requires c =
     let p = c.requires in
-    nth_there _ c.args.f _ _ p.0 (λ i. (c.type_inv.file i).fits) _ p.1 p.2
+    nth_there c.args.file.now c.args.f c.args.index.at c.args.index.entries p (λ i. (c.type_inv.file i).fits) c.args.n (omega arith) (omega arith)
     _ _ c.entry_size.ensures c.offset_width.ensures _ c.read_number-at.ensures.0
 
 pub returns : goal.returns
 unfolding field_at
 returns c =
     let p = c.requires in
-    nth_is _ c.args.f _ _ p.0 (λ i. (c.type_inv.file i).fits) _ p.1 p.2
-    _ _ c.entry_size.ensures c.offset_width.ensures _ c.read_number-at.ensures.0 _ c.two_at.ensures
+    nth_is c.args.file.now c.args.f c.args.index.at c.args.index.entries p (λ i. (c.type_inv.file i).fits) c.args.n (omega arith) (omega arith)
+    _ _ c.entry_size.ensures c.offset_width.ensures _ c.read_number-at.ensures.0 _ (c.from.ensures ∙ c.two_at.ensures)

@@ -1,4 +1,6 @@
 -- `archive::open::entry_agrees` meets its contract.
+use mathlib.Core.Path.{◌∙◌}
+use borrow.Author.Tests.{ne_eqb}
 use native.Mathlib.Omega.{arith}
 use Rattle.wire.specs.Header.{field_at}
 use Rattle.archive.proofs.FormLaws.{width_most}
@@ -11,10 +13,10 @@ read_number-requires c = omega (arith, width_most c.args.f)
 pub returns-then-read_number-at : goal.returns-then-read_number-at
 unfolding field_at
 returns-then-read_number-at c =
-    entry_other _ _ _ _ _ _ c.offset_width-w.ensures c.read_number.ensures.0 c.if-read_number-at.true
-
-pub returns : goal.returns
-unfolding field_at
-returns c =
-    entry_two _ _ _ _ _ _ c.offset_width-w.ensures c.read_number.ensures.0 c.if-read_number-at.false _ _
+    entry_two _ _ _ _ _ _ c.offset_width-w.ensures c.read_number.ensures.0 c.if-read_number-at.true _ _
     c.two_at.ensures c.session_at.ensures
+
+pub returns-else-read_number-at : goal.returns-else-read_number-at
+unfolding field_at
+returns-else-read_number-at c =
+    ne_eqb _ _ c.if-read_number-at.false ∙ entry_other _ _ _ _ _ _ c.offset_width-w.ensures c.read_number.ensures.0 c.if-read_number-at.false

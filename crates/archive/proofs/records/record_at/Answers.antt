@@ -1,7 +1,6 @@
 -- `archive::records::record_at` meets its contract.
+use mathlib.Core.Path.{◌∙◌}
 use native.Mathlib.Omega.{arith}
-use mathlib.Core.Bool.{true, false}
-use borrow.Author.Tests.{not-true, not-false}
 use Rattle.archive.proofs.WalkLaws.{size_short, size_past, size_by}
 use Rattle.archive.proofs.records.record_at.Goals as goal
 
@@ -13,18 +12,10 @@ returns-then-end-at-lt-LENGTH_LEN c =
 pub returns-then-end-from : goal.returns-then-end-from
 returns-then-end-from c =
     let a = c.args in
-    size_past a.file.now a.at a.end (omega arith) (omega arith) (rw (← c.two_at-n.ensures) (omega arith))
-
-pub returns-then-not-is_message : goal.returns-then-not-is_message
-returns-then-not-is_message c =
-    let a = c.args in
-    let t = c.two_at-n in
-    size_by a.file.now a.at a.end (omega arith) (omega arith) t.result t.ensures (omega arith) _ false
-    c.is_message.ensures (not-true _ c.if-not-is_message.true-raw)
+    size_past a.file.now a.at a.end (omega arith) (omega arith) (rw (← c.two_at.ensures, ← c.from-n.ensures) (omega arith))
 
 pub returns : goal.returns
 returns c =
     let a = c.args in
-    let t = c.two_at-n in
-    size_by a.file.now a.at a.end (omega arith) (omega arith) t.result t.ensures (omega arith) _ true
-    c.is_message.ensures (not-false _ c.if-not-is_message.false-raw)
+    let t = c.from-n in
+    c.then_some.ensures ∙ size_by a.file.now a.at a.end (omega arith) (omega arith) t.result (t.ensures ∙ c.two_at.ensures) (omega arith) _ c.is_message.ensures

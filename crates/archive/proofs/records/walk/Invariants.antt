@@ -1,4 +1,4 @@
--- `archive::records::walk` meets its contract. The loop's invariant: the records up to `at` are n, and what is cut from there on decides.
+-- `archive::records::walk` meets its contract. The loop's invariant: the records up to `at` are `count`, and what is cut from there on decides.
 -- The measure is what is left.
 use mathlib.Core.Path.{◌≡◌}
 use Prim.Native.Nat.{◌-◌, ◌≤◌}
@@ -10,10 +10,10 @@ use Rattle.archive.proofs.records.walk.Given as goal
 
 abbrev pub invariant-loop-at : goal.invariant-loop-at
 invariant-loop-at l =
-    (l.n ≤ l.at)
+    (l.count ≤ l.at)
     × (l.at ≤ l.size)
     × (l.size ≤ length l.file)
-    × (walked_from 0 (messages_to l.file l.size) ≡ walked_from l.n (cut_all (l.size - l.n) (slice l.at l.size l.file)))
+    × (walked_from 0 (messages_to l.file l.size) ≡ walked_from l.count (cut_all (l.size - l.count) (slice l.at l.size l.file)))
 
 abbrev pub decreases-loop-at : goal.decreases-loop-at
 decreases-loop-at l = l.size - l.at

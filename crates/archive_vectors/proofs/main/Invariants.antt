@@ -1,8 +1,0 @@
--- `main` ends: the measure is what is left of the most cases.
-use Rattle.archive_vectors.proofs.main.Given as goal
-
-abbrev pub invariant-loop-left : goal.invariant-loop-left
-invariant-loop-left l = Unit {0}
-
-abbrev pub decreases-loop-left : goal.decreases-loop-left
-decreases-loop-left l = l.left
