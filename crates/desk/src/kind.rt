@@ -83,9 +83,9 @@ impl Kind {
     pub fn number(self) -> u8 {
         match self {
             Kind::Scalar(scalar) => scalar as u8,
-            Kind::Text => 12,
-            Kind::Array(_) => 13,
-            Kind::Struct => 14,
+            Kind::Text => wire_kind::STRING as u8,
+            Kind::Array(_) => wire_kind::ARRAY as u8,
+            Kind::Struct => wire_kind::STRUCT as u8,
         }
     }
 
