@@ -153,7 +153,7 @@ def source_constants(crates):
             "HEADER_LENGTH": header_len,
             "PAYLOAD_MOST": payload_most,
             "MESSAGE_MOST": header_len + payload_most,
-            "NO_CODE": number_of(crates / "chudopolk/src/head.rt", r"ReturnCode::None => (\d+)"),
+            "NO_CODE": number_of(crates / "chudopolk/src/head.rt", r"const NO_CODE: u32 = (\d+);"),
         },
         "chudopolk_mark": {"OPTIONAL": 0, "REQUIRED": 1, "TOLD": 0, "FIXED": 1},
     }

@@ -18,7 +18,7 @@ use Rattle.wire.specs.Choose.{pick, and}
 use Rattle.wire.specs.Kind.{size_of}
 use Rattle.wire.specs.Number.{signed_of, signed_by}
 use Rattle.payload.specs.declared.table.TypeRow.{TypeRow}
-use Rattle.payload.specs.declared.judge.Judged.TheVariants.{Unfit}
+use Rattle.payload.specs.Judging.{Unfit}
 use Rattle.payload.specs.declared.row.Row.{Row}
 use Rattle.payload.specs.declared.row.Value.TheVariants.{Unsigned, Signed, Bytes}
 use Rattle.payload.specs.Row.{plain, absent_row, members_row, is_absent}

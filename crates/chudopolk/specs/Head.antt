@@ -1,8 +1,6 @@
 -- What crosses beside rows and bytes, as the library's own types (document 01, Header and Verdicts).
-use Rattle.std.specs.Prelude.{ℕ, ◌*◌, ◌/◌, List, ◌++◌, length, take, drop}
+use Rattle.std.specs.Prelude.{ℕ, Option, Some, None, ◌*◌, ◌/◌, List, ◌++◌, length, take, drop}
 use Rattle.wire.specs.declared.verdict.Verdict.{Verdict}
-use Rattle.wire.specs.declared.verdict.ReturnCode.{ReturnCode}
-use Rattle.wire.specs.declared.verdict.ReturnCode.TheVariants.{Code, None}
 use Rattle.wire.specs.Verdict.{verdict_number, return_code}
 use Rattle.payload.specs.declared.write.Written.{Written}
 use Rattle.message.specs.declared.header.Header.{Header}
@@ -22,8 +20,8 @@ expected_of e =
     record { service = record { 0 = e.service }; method = record { 0 = e.method }; interface = e.interface; kind = record { 0 = e.kind } }
 
 -- a return code, or 256 where there is none
-abbrev pub code_number : ReturnCode → ℕ
-code_number (Code c) = c
+abbrev pub code_number : Option ℕ → ℕ
+code_number (Some c) = c
 code_number None = 256
 
 unfoldable pub answer_is : Head → Verdict → ℕ → ℕ → Answer

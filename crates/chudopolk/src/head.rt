@@ -8,7 +8,6 @@ use message::message_type::MessageType;
 use message::read::{Expected, MessageReading};
 use payload::write::Written;
 use wire::id::{ClientId, MethodId, ServiceId, SessionId};
-use wire::verdict::ReturnCode;
 
 // What the caller expects of a header. `kind` is the Message Type.
 #[repr(C)]
@@ -75,14 +74,14 @@ impl From<Expectation> for Expected {
     }
 }
 
-// A return code as a number; none is a number that no byte has.
-fn code_number(c: ReturnCode) -> u32
+// What no return code is shown as: a number that no byte has.
+const NO_CODE: u32 = 256;
+
+// A return code as a number.
+fn code_number(c: Option<u8>) -> u32
     ensures { result ≡ code_number c }
 {
-    match c {
-        ReturnCode::Code(x) => x as u32,
-        ReturnCode::None => 256,
-    }
+    c.map_or(NO_CODE, u32::from)
 }
 
 // The answer to a reading.

@@ -30,7 +30,7 @@ fn is_text(content: &[u8], place: usize, len: usize) -> bool {
     if content.len() - place < len {
         return false;
     }
-    wire_text::text_fits(content, place, place + len)
+    wire_text::text_fits(&content[place..place + len])
 }
 
 // Whether a row that is no string's, or is absent, or has text.

@@ -9,7 +9,6 @@ use payload::read::Reading;
 use payload::row::Row;
 use text::say::OUT;
 use text::{say, slice};
-use wire::verdict::ReturnCode;
 
 // A row's line: its number from 1 on, its Data ID, its name, its value.
 fn row_line(nth: u64, ident: u16, name: &[u8], r: Row, payload: &[u8], elem: u8) -> bool {
@@ -52,10 +51,10 @@ fn rows(r: Reading, s: Sheet, all: &[u8], payload: &[u8]) -> bool {
 }
 
 // A verdict's return code.
-fn code(c: ReturnCode) -> bool {
+fn code(c: Option<u8>) -> bool {
     match c {
-        ReturnCode::Code(x) => phrase::field(OUT, phrase::CODE, x as u64),
-        ReturnCode::None => {
+        Some(x) => phrase::field(OUT, phrase::CODE, x as u64),
+        None => {
             phrase::word(OUT, phrase::CODE);
             phrase::word(OUT, phrase::NONE)
         }

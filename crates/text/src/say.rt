@@ -4,7 +4,6 @@ ghost use Rattle.std.specs.Prelude.{◌≡◌, ◌<◌, nat_abs};
 
 use super::slice;
 use wire::number;
-use wire::verdict::ReturnCode;
 
 // The descriptors of standard output and standard error.
 pub const OUT: i32 = 1;
@@ -65,9 +64,9 @@ pub fn hex(fd: i32, number: u64, n: usize) -> bool {
 }
 
 // A verdict's return code.
-pub fn code(fd: i32, c: ReturnCode) -> bool {
+pub fn code(fd: i32, c: Option<u8>) -> bool {
     match c {
-        ReturnCode::Code(x) => field(fd, b" code ", x as u64),
-        ReturnCode::None => io::write_all(fd, b" code none"),
+        Some(x) => field(fd, b" code ", x as u64),
+        None => io::write_all(fd, b" code none"),
     }
 }

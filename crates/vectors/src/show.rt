@@ -10,7 +10,7 @@ use std::io::{self, Write};
 use std::{fmt, num};
 use wire::number;
 use wire::part::Part;
-use wire::verdict::{ReturnCode, Verdict};
+use wire::verdict::Verdict;
 
 // A verdict's number and its return code.
 #[derive(Clone, Copy)]
@@ -21,8 +21,8 @@ impl fmt::Display for Judged {
         let number = self.0.number();
         write!(f, "verdict {number} code ")?;
         match self.0.return_code() {
-            ReturnCode::Code(code) => write!(f, "{code}"),
-            ReturnCode::None => f.write_str("none"),
+            Some(code) => write!(f, "{code}"),
+            None => f.write_str("none"),
         }
     }
 }
@@ -98,7 +98,7 @@ pub fn message<W: Write>(m: &MessageReading, room: u8, out: &mut W) -> io::Resul
         "client {client} session {session} return {}",
         h.found_code
     )?;
-    let accepted = matches!(r.verdict, Verdict::Accepted);
+    let accepted = r.verdict == Verdict::Accepted;
     let place = |p: Part| {
         if accepted || p.len != 0 {
             Place(p)

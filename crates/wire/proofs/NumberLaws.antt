@@ -25,9 +25,9 @@ use native.Mathlib.Numerals.{add-one}
 use native.Mathlib.Omega.{arith}
 use lib.Dec.{ltb}
 use lib.IntN.{ℤ, pos, negsuc}
-use lib.ListN.{length, get_or, take, set, length-append}
+use lib.ListN.{length, get_or, take, drop, set, length-append, length-drop}
 use lib.Pow.{pow-add, pow_pos, mod-pow-add, mod-mod-pow, field, not_mod}
-use lib.Seq.{slice, sets, set_comm, take-suc, drop-append-le, length-take-le, slice_empty, length-slice, get_or-drop}
+use lib.Seq.{slice, sets, set_comm, take-suc, drop-append-le, length-take-le, slice_empty, length-slice, get_or-take, get_or-drop}
 use borrow.Author.Tests.{lt-ltb, le-ltb, ltb-true, ltb-false}
 use Rattle.wire.specs.Choose.{pick}
 use Rattle.wire.specs.Number.{AreBytes, big, number_of, number_bytes, half, signed_of, twos_of, Within, up, down}
@@ -190,6 +190,16 @@ signed_twos w (down {n} h) =
     rw (le-ltb (half w + half w - 1 - n) (half w) (omega arith), e)
 
 -- ---- one turn of the loop that reads
+
+-- the bytes that the loop goes over
+module _ (p : List ℕ) (at w : ℕ) (h : at + w ≤ length p) where
+  pub run_length : length (take (at + w - at) (drop at p)) ≡ w
+  run_length =
+      let e : at + w - at ≡ w = omega arith in
+      rw e (length-take-le w (drop at p) (omega (arith, length-drop at p)))
+
+  pub run_byte : (i : ℕ) → i < w → get_or (take (at + w - at) (drop at p)) i 0 ≡ get_or p (at + i) 0
+  run_byte i k = get_or-take (at + w - at) (drop at p) i 0 (omega arith) ∙ get_or-drop at p i 0
 
 module _ (p : List ℕ) (at i : ℕ) where
   slice_snoc : at + i < length p → slice at (at + suc i) p ≡ slice at (at + i) p ++ (get_or p (at + i) 0 ∷ [])

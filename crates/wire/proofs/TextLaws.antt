@@ -3,12 +3,17 @@
 use mathlib.Core.Path.{◌≡◌, refl, sym, ap, ◌∙◌}
 use Prim.Native.Nat.{ℕ, zero, suc, ◌+◌, ◌-◌, ◌≤◌, ◌<◌}
 use native.Mathlib.Omega.{arith}
-use native.Mathlib.Numerals.{add-one}
-use mathlib.Core.Bool.{Bool, true, false}
+use native.Mathlib.Numerals.{one-add}
+use mathlib.Core.Bool.{Bool, true, false, not, cond}
+use Rattle.std.specs.Prelude.{Option, Some, None, MatchOption, unwrap_or, position, ◌&&◌}
+use Rattle.std.specs.List.{position_or_len, list_all, IsSplitAt}
+use Rattle.std.specs.Bool.{then_some}
+use Rattle.std.proofs.Common.{Bor}
+use Rattle.std.proofs.lemmas.List.Sums.{prefix_len-le-length}
 use mathlib.Core.List.{List, [], ◌∷◌, ◌++◌}
 use native.Mathlib.Nat.{add-zero, suc-add}
 use lib.ListN.{length, take, drop, get_or, length-append}
-use lib.Seq.{slice, slice_empty, slice-cons, length-slice, get_or-take, get_or-drop, take-take, drop-drop, take-nil, take-suc, take_all, take-append_seam, get_or-append_seam}
+use lib.Seq.{slice, length-slice, get_or-take, get_or-drop, take-take, drop-drop, take-nil, take-suc, take_all, take-append_seam, get_or-append_seam}
 use lib.Dec.{leb, ltb, eqb}
 use borrow.Author.Tests.{eq-eqb, ne_eqb, lt-ltb, le-ltb, le-leb, eqb-true, eqb-false, ltb-true, ltb-false, leb-true}
 use Rattle.wire.proofs.ChooseLaws.{and_left, and_right, and_false}
@@ -29,68 +34,79 @@ plain_is x ne = rw (ne_eqb x 0 ne) (go (ltb x 0x80) (ltb x 0xC2) (ltb x 0xE0) (l
     go false false false false false = refl
 
 -- too few bytes
-pub text_short : (k : ℕ) (xs : List ℕ) → length xs < k → text_from k xs ≡ false
+text_short : (k : ℕ) (xs : List ℕ) → length xs < k → text_from k xs ≡ false
 unfolding text_from
 text_short k [] h = ne_eqb k 0 (λ e. omega arith)
 text_short zero (x ∷ xs) h = absurd (omega arith)
 text_short (suc k) (x ∷ xs) h = rw (text_short k xs (omega arith), and_false)
 
--- ---- one turn of the loops
+-- ---- what the code passes
 
-module _ (p : List ℕ) (end i : ℕ) where
-  pub text_end : i ≡ end → text_fits (slice i end p) ≡ true
+-- a byte that stands alone
+abbrev pub plain : ℕ → Bool
+plain x = eqb (following x) 0
+
+pub text_one : (x : ℕ) (xs : List ℕ) → plain x ≡ true → text_fits (x ∷ xs) ≡ text_fits xs
+unfolding text_from
+text_one x xs e = let z : following x ≡ 0 = eqb-true (following x) 0 e in rw z
+
+-- as many as the text begins with
+pub plain_passed : (xs : List ℕ) → text_fits xs ≡ text_fits (drop (position_or_len (λ x. not (plain x)) xs) xs)
+plain_passed [] = refl
+plain_passed (x ∷ xs) = go (plain x) refl (plain_passed xs)
+  where
+    n : ℕ
+    n = position_or_len (λ x. not (plain x)) xs
+
+    go : (b : Bool) → plain x ≡ b → text_fits xs ≡ text_fits (drop n xs) → text_fits (x ∷ xs) ≡ text_fits (drop (cond (not (not b)) (1 + n) 0) (x ∷ xs))
+    go true e h = text_one x xs e ∙ h ∙ rw one-add
+    go false e h = refl
+
+pub position_is : (p : ℕ → Bool) (xs : List ℕ) → unwrap_or (position p xs) (length xs) ≡ position_or_len p xs
+position_is p xs = go (ltb (position_or_len p xs) (length xs)) refl
+  where
+    go : (b : Bool) → ltb (position_or_len p xs) (length xs) ≡ b → unwrap_or (cond b (Some (position_or_len p xs)) None) (length xs) ≡ position_or_len p xs
+    go true e = refl
+    go false e = omega (arith, ltb-false (position_or_len p xs) (length xs) e, prefix_len-le-length (λ x. not (p x)) xs)
+
+module _ (x : ℕ) (xs : List ℕ) where
+  pub text_bad : following x ≡ 4 → text_fits (x ∷ xs) ≡ false
   unfolding text_from
-  text_end e = rw (e, slice_empty end p)
+  text_bad e = rw (eq-eqb (following x) 4 e)
 
-  module _ (h : i < end) (in_p : end ≤ length p) where
-    pub text_bad : following (get_or p i 0) ≡ 4 → text_fits (slice i end p) ≡ false
-    unfolding text_from
-    text_bad e = rw (slice-cons i end p 0 h in_p, eq-eqb (following (get_or p i 0)) 4 e)
+  text_first : (n : ℕ) → n ≡ following x → n < 4 → text_fits (x ∷ xs) ≡ text_from n xs
+  unfolding text_from
+  text_first n e h = rw (ne_eqb (following x) 4 (λ z. omega arith), e)
 
-    pub text_first : (following (get_or p i 0) ≡ 4 → ⊥) → text_fits (slice i end p) ≡ text_from (following (get_or p i 0)) (slice (i + 1) end p)
-    unfolding text_from
-    text_first e = rw (slice-cons i end p 0 h in_p, add-one i, ne_eqb (following (get_or p i 0)) 4 e)
+  pub text_cut : (n : ℕ) → n ≡ following x → n < 4 → length xs < n → text_fits (x ∷ xs) ≡ false
+  text_cut n e h few = text_first n e h ∙ text_short n xs few
 
-    pub text_plain : eqb (following (get_or p i 0)) 0 ≡ true → text_fits (slice i end p) ≡ text_fits (slice (i + 1) end p)
-    text_plain e =
-        let z = eqb-true (following (get_or p i 0)) 0 e in
-        text_first (λ d. omega arith) ∙ ap (λ (k : ℕ). text_from k (slice (i + 1) end p)) z
+-- the bytes that follow a first one, and what is left
+pub text_follow : (n : ℕ) (xs : List ℕ) → n ≤ length xs → text_from n xs ≡ and (list_all follows (take n xs)) (text_fits (drop n xs))
+unfolding text_from
+text_follow zero xs h = refl
+text_follow (suc n) [] h = absurd (omega arith)
+text_follow (suc n) (x ∷ xs) h = go (follows x) (text_follow n xs (omega arith))
+  where
+    go : (b : Bool) → text_from n xs ≡ and (list_all follows (take n xs)) (text_fits (drop n xs))
+        → and b (text_from n xs) ≡ and (b && list_all follows (take n xs)) (text_fits (drop n xs))
+    go true h = h
+    go false h = refl
 
-    -- a character of more bytes: r says whether they follow
-    pub text_follow : (n : ℕ) → n ≡ following (get_or p i 0) → (n ≡ 4 → ⊥) → (r b : Bool) → r ≡ b
-        → text_from n (slice (i + 1) end p) ≡ and r (text_fits (slice (i + 1 + n) end p)) → text_fits (slice i end p) ≡ and b (text_fits (slice (i + 1 + n) end p))
-    text_follow n e ne r b d t =
-        text_first (λ z. ne (e ∙ z))
-        ∙ ap (λ (k : ℕ). text_from k (slice (i + 1) end p)) (sym e)
-        ∙ t
-        ∙ ap (λ (a : Bool). and a (text_fits (slice (i + 1 + n) end p))) d
+-- what is left of a text behind a first byte and those that follow it, or nothing where it is none
+abbrev pub Left : ℕ → List ℕ → Option (Bor (List ℕ)) → Type 0
+Left x xs r = MatchOption r (text_fits (x ∷ xs) ≡ false) (λ left. text_fits (x ∷ xs) ≡ text_fits left.now)
 
-    module _ (k : ℕ) (some : 0 < k) where
-      pub text_stop : follows (get_or p i 0) ≡ false → text_from k (slice i end p) ≡ false
-      unfolding text_from
-      text_stop e = go k some
-        where
-          go : (k : ℕ) → 0 < k → text_from k (slice i end p) ≡ false
-          go zero some = absurd (omega arith)
-          go (suc k) some = rw (slice-cons i end p 0 h in_p, e)
+pub text_left : (x n : ℕ) (xs front : List ℕ) (left : Bor (List ℕ)) (b : Bool) → n ≡ following x → n < 4 → IsSplitAt xs n front left.now
+    → b ≡ list_all follows front → Left x xs (then_some b left)
+text_left x n xs front left b e h s all = go b (sym all)
+  where
+    whole : text_fits (x ∷ xs) ≡ and (list_all follows front) (text_fits left.now)
+    whole = text_first x xs n e h ∙ text_follow n xs s.0 ∙ rw (s.1, s.2)
 
-      pub text_next : follows (get_or p i 0) ≡ true → text_from k (slice i end p) ≡ text_from (k - 1) (slice (i + 1) end p)
-      unfolding text_from
-      text_next e = go k some
-        where
-          go : (k : ℕ) → 0 < k → text_from k (slice i end p) ≡ text_from (k - 1) (slice (i + 1) end p)
-          go zero some = absurd (omega arith)
-          go (suc k) some = let z : suc k - 1 ≡ k = omega arith in rw (slice-cons i end p 0 h in_p, add-one i, e, z)
-
--- a plain byte among the four at a place
-module _ (p : List ℕ) (end at : ℕ) (h : at + 4 ≤ end) (in_p : end ≤ length p) where
-  pub plain_first : eqb (following (get_or p at 0)) 0 ≡ true → text_fits (slice at end p) ≡ text_fits (slice (at + 1) end p)
-  plain_first e = text_plain p end at (omega arith) in_p e
-
-  pub plain_next : (k : ℕ) → k < 4 → eqb (following (get_or p (at + k) 0)) 0 ≡ true → text_fits (slice (at + k) end p) ≡ text_fits (slice (at + suc k) end p)
-  plain_next k few e =
-      let z : at + k + 1 ≡ at + suc k = omega arith in
-      text_plain p end (at + k) (omega arith) in_p e ∙ ap (λ (j : ℕ). text_fits (slice j end p)) z
+    go : (b : Bool) → list_all follows front ≡ b → Left x xs (then_some b left)
+    go true d = rw d at whole
+    go false d = rw d at whole
 
 -- ---- a string's content, by places
 

@@ -1,5 +1,5 @@
 -- The verdicts (document 01, Verdicts): each one's number and its return code.
-use Rattle.std.specs.Prelude.{ℕ}
+use Rattle.std.specs.Prelude.{ℕ, Option, Some, None}
 use Rattle.wire.specs.declared.verdict.Verdict.{Verdict}
 use Rattle.wire.specs.declared.verdict.Verdict.TheVariants.{
   Accepted,
@@ -26,8 +26,6 @@ use Rattle.wire.specs.declared.verdict.Verdict.TheVariants.{
   Wide,
   Heavy,
 }
-use Rattle.wire.specs.declared.verdict.ReturnCode.{ReturnCode}
-use Rattle.wire.specs.declared.verdict.ReturnCode.TheVariants.{Code, None}
 
 abbrev pub verdict_number : Verdict → ℕ
 verdict_number Accepted = 0
@@ -54,26 +52,26 @@ verdict_number Outside = 31
 verdict_number Wide = 32
 verdict_number Heavy = 33
 
-abbrev pub return_code : Verdict → ReturnCode
-return_code Accepted = Code 0x00
+abbrev pub return_code : Verdict → Option ℕ
+return_code Accepted = Some 0x00
 return_code Table = None
 return_code Room = None
-return_code Short = Code 0x09
-return_code Length = Code 0x09
-return_code Protocol = Code 0x07
-return_code Service = Code 0x02
-return_code Interface = Code 0x08
-return_code Method = Code 0x03
-return_code MessageType = Code 0x0A
-return_code Large = Code 0x09
-return_code TagCut = Code 0x09
-return_code Wire = Code 0x09
-return_code Twice = Code 0x09
-return_code FieldCut = Code 0x09
-return_code Overrun = Code 0x09
-return_code Array = Code 0x09
-return_code Text = Code 0x09
-return_code Missing = Code 0x09
+return_code Short = Some 0x09
+return_code Length = Some 0x09
+return_code Protocol = Some 0x07
+return_code Service = Some 0x02
+return_code Interface = Some 0x08
+return_code Method = Some 0x03
+return_code MessageType = Some 0x0A
+return_code Large = Some 0x09
+return_code TagCut = Some 0x09
+return_code Wire = Some 0x09
+return_code Twice = Some 0x09
+return_code FieldCut = Some 0x09
+return_code Overrun = Some 0x09
+return_code Array = Some 0x09
+return_code Text = Some 0x09
+return_code Missing = Some 0x09
 return_code Value = None
 return_code Outside = None
 return_code Wide = None

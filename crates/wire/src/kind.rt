@@ -12,13 +12,13 @@ pub const ARRAY: usize = 13;
 pub const STRUCT: usize = 14;
 
 // A kind's bytes, 0 where a length field tells them, and its wire type.
-#[derive(Clone, Copy)]
+#[derive(Clone, Copy, PartialEq, Eq, Debug)]
 pub struct Kind {
     pub size: u8,
     pub wire: u8,
 }
 
-pub const KINDS: [Kind; 15] = [
+pub static KINDS: [Kind; 15] = [
     Kind { size: 0, wire: 8 },
     Kind { size: 1, wire: 0 },
     Kind { size: 1, wire: 0 },
@@ -49,7 +49,7 @@ pub fn size_of(k: usize) -> usize
     requires { k < 15 }
     ensures { (result ≡ size_of k) × (result ≤ 8) }
 {
-    kind_at(k).size as usize
+    usize::from(kind_at(k).size)
 }
 
 // Whether a member of a kind may come with a wire type. For the library's own crates, as the entry is.
@@ -57,9 +57,6 @@ pub fn wire_fits(k: usize, wire: u64) -> bool
     requires { k < 15 }
     ensures { result ≡ wire_fits k wire }
 {
-    let w = kind_at(k).wire as u64;
-    if w < 4 {
-        return wire == w;
-    }
-    4 <= wire
+    let own = u64::from(kind_at(k).wire);
+    if own < 4 { wire == own } else { 4 <= wire }
 }

@@ -7,23 +7,14 @@ ghost use Rattle.std.specs.Float.{binary32, binary64};
 ghost use Rattle.std.specs.Float.Ieee.{of_bits};
 ghost use Rattle.wire.specs.Number.{big, number_of, number_bytes, signed_by, twos_of};
 
-// A byte as a number.
-pub fn wide(x: u8) -> u64
-    ensures { result ≡ x }
-{
-    x as u64
-}
-
 // The number of the w bytes at `at`. For the library's own crates: they have looked that the bytes are there.
 pub fn read_number(p: &[u8], at: usize, w: usize) -> u64
     requires { (at + w ≤ length p.now) × (w ≤ 8) }
     ensures { (result ≡ number_of big (slice at (at + w) p.now)) × (result < 256 ^ w) }
 {
     let mut v: u64 = 0;
-    let mut i: usize = 0;
-    while i < w {
-        v = v * 256 + wide(p[at + i]);
-        i += 1;
+    for b in &p[at..at + w] {
+        v = v * 256 + u64::from(*b);
     }
     v
 }
@@ -34,11 +25,9 @@ pub fn write_number(out: &mut [u8], at: usize, w: usize, v: u64)
     ensures { out.new ≡ sets out.old at (number_bytes big w v) }
 {
     let mut u = v;
-    let mut i = w;
-    while 0 < i {
-        i -= 1;
+    for i in (0..w).rev() {
         out[at + i] = (u % 256) as u8;
-        u = u / 256;
+        u /= 256;
     }
 }
 

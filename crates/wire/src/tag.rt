@@ -29,30 +29,22 @@ pub fn tag_of(wire: u64, ident: u64) -> u64
 pub fn fixed_size(wire: u64) -> usize
     ensures { (result ≡ fixed_size wire) × (result ≤ 8) }
 {
-    if wire == 0 {
-        return 1;
+    match wire {
+        0 => 1,
+        1 => 2,
+        2 => 4,
+        _ => 8,
     }
-    if wire == 1 {
-        return 2;
-    }
-    if wire == 2 {
-        return 4;
-    }
-    8
 }
 
 // The bytes of the length field of wire type 4 to 7, where the table's width is given.
 pub fn field_width(width: usize, wire: u64) -> usize
     ensures { result ≡ field_width width wire }
 {
-    if wire == 4 {
-        return width;
+    match wire {
+        4 => width,
+        5 => 1,
+        6 => 2,
+        _ => 4,
     }
-    if wire == 5 {
-        return 1;
-    }
-    if wire == 6 {
-        return 2;
-    }
-    4
 }

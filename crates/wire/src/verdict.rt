@@ -3,7 +3,7 @@
 ghost use Rattle.std.specs.Prelude.{◌≡◌};
 ghost use Rattle.wire.specs.Verdict.{verdict_number, return_code};
 
-#[derive(Clone, Copy)]
+#[derive(Clone, Copy, PartialEq, Eq, Debug)]
 pub enum Verdict {
     Accepted,
     Table,
@@ -28,13 +28,6 @@ pub enum Verdict {
     Outside,
     Wide,
     Heavy,
-}
-
-// The return code that a verdict answers, or none.
-#[derive(Clone, Copy)]
-pub enum ReturnCode {
-    Code(u8),
-    None,
 }
 
 impl Verdict {
@@ -69,34 +62,22 @@ impl Verdict {
         }
     }
 
-    // The verdict's return code.
-    pub fn return_code(self) -> ReturnCode
+    // The return code that a verdict answers, if it answers one.
+    pub fn return_code(self) -> Option<u8>
         ensures { result ≡ return_code self }
     {
         match self {
-            Verdict::Accepted => ReturnCode::Code(0),
-            Verdict::Protocol => ReturnCode::Code(7),
-            Verdict::Service => ReturnCode::Code(2),
-            Verdict::Interface => ReturnCode::Code(8),
-            Verdict::Method => ReturnCode::Code(3),
-            Verdict::MessageType => ReturnCode::Code(10),
-            Verdict::Table => ReturnCode::None,
-            Verdict::Room => ReturnCode::None,
-            Verdict::Value => ReturnCode::None,
-            Verdict::Outside => ReturnCode::None,
-            Verdict::Wide => ReturnCode::None,
-            Verdict::Heavy => ReturnCode::None,
-            Verdict::Short => ReturnCode::Code(9),
-            Verdict::Length => ReturnCode::Code(9),
-            Verdict::Large => ReturnCode::Code(9),
-            Verdict::TagCut => ReturnCode::Code(9),
-            Verdict::Wire => ReturnCode::Code(9),
-            Verdict::Twice => ReturnCode::Code(9),
-            Verdict::FieldCut => ReturnCode::Code(9),
-            Verdict::Overrun => ReturnCode::Code(9),
-            Verdict::Array => ReturnCode::Code(9),
-            Verdict::Text => ReturnCode::Code(9),
-            Verdict::Missing => ReturnCode::Code(9),
+            Verdict::Accepted => Some(0),
+            Verdict::Service => Some(2),
+            Verdict::Method => Some(3),
+            Verdict::Protocol => Some(7),
+            Verdict::Interface => Some(8),
+            Verdict::Short | Verdict::Length | Verdict::Large => Some(9),
+            Verdict::TagCut | Verdict::Wire | Verdict::Twice | Verdict::FieldCut => Some(9),
+            Verdict::Overrun | Verdict::Array | Verdict::Text | Verdict::Missing => Some(9),
+            Verdict::MessageType => Some(10),
+            Verdict::Table | Verdict::Room => None,
+            Verdict::Value | Verdict::Outside | Verdict::Wide | Verdict::Heavy => None,
         }
     }
 }

@@ -1,45 +1,29 @@
-use mathlib.Core.Path.{◌≡◌, sym, ◌∙◌}
-use Prim.Native.Nat.{ℕ, ◌+◌, ◌-◌}
-use native.Mathlib.Nat.{add-zero, add_assoc, sub-zero, sub-add-eq, sub_self}
-use native.Mathlib.Omega.{arith}
-use borrow.Author.Tests.{not-true, not-false}
-use lib.Seq.{slice, length-slice}
-use Rattle.wire.proofs.TextLaws.{text_short, text_stop, text_next}
+-- `wire::text::followed` meets its contract. Each return goes by what the calls before it gave.
+use mathlib.Core.Path.{sym, subst}
+use borrow.Author.Rules.{rules}
+use Rattle.std.proofs.lemmas.Iterator.{YieldsList-from_slice}
+use Rattle.std.proofs.lemmas.Iterator.Search.{all_from_yields_List}
+use Rattle.wire.specs.Text.{follows}
+use Rattle.wire.proofs.TextLaws.{Left, text_bad, text_cut, text_left}
 use Rattle.wire.proofs.text.followed.Goals as goal
 
-pub returns-then-end-at : goal.returns-then-end-at
-returns-then-end-at c =
+pub returns-in_err-n-clause-same : goal.returns-in_err-n-clause-same
+returns-in_err-n-clause-same c =
     let a = c.args in
-    let l = length-slice a.at a.end a.p.now (omega arith) in
-    (text_short a.n (slice a.at a.end a.p.now) (omega arith), λ e. let z : ◌≡◌ {A = ℕ} 0 1 = cc in absurd (omega arith))
+    subst (Left a.first a.after.now) (sym c.from_residual.ensures) (text_bad a.first a.after.now (sym c.in_err-n.ensures.number))
 
-pub loop-i-init : goal.loop-i-init
-loop-i-init c =
+pub returns-in_err-following-clause-same : goal.returns-in_err-following-clause-same
+returns-in_err-following-clause-same c =
     let a = c.args in
-    (omega arith, rw (sub-zero a.n, add-zero a.at))
+    let n = c.in_ok-n in
+    subst (Left a.first a.after.now) (sym c.from_residual-in_err-following.ensures)
+    (text_cut a.first a.after.now n.n n.ensures.number n.ensures.few c.in_err-following.ensures.cases)
 
-pub returns-then-not-follows_on : goal.returns-then-not-follows_on
-returns-then-not-follows_on c =
+pub returns-clause-same : goal.returns-clause-same
+returns-clause-same c =
     let a = c.args in
-    let t = c.loop-i in
-    let no = sym c.follows_on.ensures ∙ not-true _ c.if-not-follows_on.true-raw in (
-      t.invariant.1 ∙ text_stop a.p.now a.end (a.at + t.i) (omega arith) (omega arith) (a.n - t.i) (omega arith) no,
-      λ e. let z : ◌≡◌ {A = ℕ} 0 1 = cc in absurd (omega arith),
-    )
-
-pub loop-i-preserved : goal.loop-i-preserved
-loop-i-preserved c =
-    let a = c.args in
-    let t = c.loop-i in
-    let yes = sym c.follows_on.ensures ∙ not-false _ c.if-not-follows_on.false-raw in (
-      omega arith,
-      rw (sub-add-eq a.n t.i 1, ← add_assoc a.at t.i 1)
-          (t.invariant.1 ∙ text_next a.p.now a.end (a.at + t.i) (omega arith) (omega arith) (a.n - t.i) (omega arith) yes),
-    )
-
-pub returns : goal.returns
-returns c =
-    let a = c.args in
-    let t = c.loop-i in
-    let e : t.i ≡ a.n = omega arith in
-    (rw (e, sub_self a.n) at t.invariant.1, λ _. omega arith)
+    let n = c.in_ok-n in
+    let s = c.in_ok-following in
+    let all = all_from_yields_List follows _ _ _ c.all.ensures.ran (YieldsList-from_slice s.following.now cc) (λ x b q h. search rules) in
+    subst (Left a.first a.after.now) (sym c.then_some.ensures)
+    (text_left a.first n.n a.after.now s.following.now s.left c.all.result n.ensures.number n.ensures.few s.ensures.cases all)
