@@ -87,13 +87,6 @@ pub record Stops (cells : List ℕ) (first stop count l : ℕ) : Type 0 where
   pub deep : (i : ℕ) → first ≤ i → i < stop → l ≤ level_in (get_or cells i 0)
   pub shut : stop < count → level_in (get_or cells stop 0) < l
 
--- Of the four rows at `at` the first r do not have a key, and row r has it, if r is below 4.
-pub record KeyFour (cells : List ℕ) (at key r : ℕ) : Type 0 where
-  pub few : r ≤ 4
-  pub hit : r < 4 → get_or cells (at + r) 0 / 512 ≡ key
-  pub same : (n l x : ℕ) → l < 16 → key ≡ x * 16 + l → at + 4 ≤ n → ((i : ℕ) → at ≤ i → i < at + 4 → l ≤ level_in (get_or cells i 0))
-      → search_at n cells l x at ≡ search_at n cells l x (at + r)
-
 -- ---- the check
 
 -- the cells of a table that keeps its rules

@@ -18,7 +18,7 @@ pub struct Kind {
     pub wire: u8,
 }
 
-pub const KINDS: [Kind; 15] = [
+pub static KINDS: [Kind; 15] = [
     Kind { size: 0, wire: 8 },
     Kind { size: 1, wire: 0 },
     Kind { size: 1, wire: 0 },

@@ -8,7 +8,7 @@ use mathlib.Core.Bool.{Bool, true, false}
 use mathlib.Core.List.{List}
 use lib.ListN.{length, take, drop}
 use lib.Seq.{slice, length-slice}
-use lib.Dec.{leb, eqb}
+use lib.Dec.{leb}
 use borrow.Author.Tests.{lt-ltb, le-ltb, lt-leb, le-leb}
 use Rattle.wire.specs.Choose.{pick}
 use Rattle.wire.specs.Number.{big, number_of}
@@ -17,16 +17,6 @@ use Rattle.wire.specs.declared.verdict.Verdict.TheVariants.{FieldCut, Overrun}
 use Rattle.payload.specs.Reading.{cut, content, content_of, lengthed_of, body_of}
 use Rattle.payload.specs.Walking.{body_in}
 use Rattle.payload.proofs.Walking.Slices.{part_take, part_drop}
-
--- a length field has at most four bytes
-pub field_few : (width wire : ℕ) → width ≤ 4 → field_width width wire ≤ 4
-field_few width wire h = go (eqb wire 4) (eqb wire 5) (eqb wire 6)
-  where
-    go : (a b c : Bool) → pick a width (pick b 1 (pick c 2 4)) ≤ 4
-    go true b c = h
-    go false true c = omega arith
-    go false false true = omega arith
-    go false false false = omega arith
 
 module _ (p : List ℕ) (at end : ℕ) (l : end ≤ length p) where
   -- ---- so many bytes at a place
