@@ -1,7 +1,7 @@
 // The words of a line. Blanks stand between words; a word that would begin with # begins a comment; one that begins with a quotation mark
 // ends with the next that no backslash stands before.
 
-ghost use Rattle.std.specs.Prelude.{◌+◌, ◌<◌, ◌≤◌, ◌↔◌, All, IfSome, IsNone, length};
+ghost use Rattle.std.specs.Prelude.{◌≡◌, ◌+◌, ◌<◌, ◌≤◌, ◌↔◌, All, IfSome, IsNone, length};
 ghost use Rattle.text.specs.Word.{AreAlike, TakesWord};
 ghost use Rattle.std.specs.Iterator.{at_most};
 
@@ -13,7 +13,9 @@ pub struct Words<'a> {
 
 impl<'a> Words<'a> {
     // All words of a line.
-    pub fn new(line: &'a [u8]) -> Words<'a> {
+    pub fn new(line: &'a [u8]) -> Words<'a>
+        ensures { result.rest.now ≡ line.now }
+    {
         Words { rest: line }
     }
 }
