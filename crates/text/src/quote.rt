@@ -23,7 +23,7 @@ fn width(first: u8) -> usize
     }
 }
 
-// Whether a character is printed as it is: by its first byte, and where that leaves it open by its second.
+// Whether a character is printed as it is: by its first byte, and where that leaves it open by its second, which past the text's end counts as 0.
 fn is_plain(character: &[u8]) -> bool {
     let first = character.first().copied().unwrap_or(0);
     let second = character.get(1).copied().unwrap_or(0);
