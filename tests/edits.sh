@@ -41,7 +41,14 @@ function_at() { # CRATE FILE LINE [GOAL]
     awk -v at="$3" -v name="$1$module" '
         NR > at { exit }
         /^}/ { type = "" }
-        /^impl/ { type = $0; sub(/.* for /, "", type); sub(/^impl */, "", type); sub(/[ <{].*/, "", type); type = "::" type }
+        # A trait of its own has a name of both: From<Fields> for Header is HeaderFromFields, as rt names it.
+        /^impl/ {
+            type = trait = $0
+            sub(/.* for /, "", type); sub(/^impl */, "", type); sub(/[ <{].*/, "", type)
+            if (!sub(/ for .*/, "", trait)) trait = ""
+            sub(/^impl */, "", trait); gsub(/&/, "Ref", trait); gsub(/[^A-Za-z0-9_]/, "", trait)
+            type = "::" type trait
+        }
         !/^ *\/\// && match($0, /fn [a-z_0-9]+/) { last = type "::" substr($0, RSTART + 3, RLENGTH - 3) }
         END { if (last) print name last }' "crates/$1/$2"
 }

@@ -61,6 +61,18 @@ def source_functions(text):
     }
 
 
+def type_row_numbers(text):
+    """The numbers of a type row, in the order in which it is read from them."""
+    body = re.search(r"\bfn type_row\((.*?)\n\}", text, re.S)[1]
+    kind = re.match(r"numbers: &\[(\w+)\]", body)[1]
+    found = re.findall(r"(\w+): .*\bnumbers\[at(?: \+ (\d+))?\]", body)
+    return [(C_TYPES[kind], field) for field, _ in sorted(found, key=lambda pair: int(pair[1] or 0))]
+
+
+def value_row_numbers(text):
+    return [(C_TYPES[kind], field) for field, kind in pairs(re.search(r"\bstruct Numbers \{(.*?)\}", text, re.S)[1])]
+
+
 # ---- the header
 
 
@@ -171,9 +183,8 @@ def main(root):
     rows = {name: structs.pop(name, []) for name in ("chudopolk_type_row", "chudopolk_value_row")}
     compare("the structs of the header", source_structs(source), structs)
     compare("the structs of the Rust example", {**rows, **structs}, source_structs(binding))
-    for name, made_by in (("chudopolk_type_row", "type_row"), ("chudopolk_value_row", "row_of")):
-        numbers = pairs(re.search(rf"\bfn {made_by}\((.*?)\)", source, re.S)[1])
-        compare(f"the numbers of {name}", [(C_TYPES[kind], field) for field, kind in numbers], rows[name])
+    compare("the numbers of chudopolk_type_row", type_row_numbers(source), rows["chudopolk_type_row"])
+    compare("the numbers of chudopolk_value_row", value_row_numbers(source), rows["chudopolk_value_row"])
 
     kinds = constants.pop("chudopolk_kind", {})
     compare("the constants of the header", source_constants(crates), constants)

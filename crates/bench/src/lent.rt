@@ -1,51 +1,58 @@
 // Messages read into lent rows, and written from them, for this program alone.
 
-ghost use Rattle.std.specs.Prelude.{◌≤◌};
-
-use super::show;
 use message::header::Header;
-use message::read::Expected;
-use message::rows;
-use message::rows::Answered;
+use message::read::{Expected, Head};
+use message::rows::{self, Answered};
 use payload::row::Row;
 use payload::table::Table;
 use payload::write::Written;
+use wire::id::{ClientId, SessionId};
+use wire::part::Part;
+use wire::verdict::Verdict;
 
-// Reads a datagram into the same rows as often as is left, shows the last answer, and gives the rows.
-pub fn read_often(
-    d: &[u8],
-    e: Expected,
-    t: Table,
-    mut left: usize,
-    mut rows: [Row; 64],
-    mut last: Answered,
-) -> [Row; 64] {
-    while 0 < left {
-        last = rows::read_message(d, e, t, &mut rows);
-        left -= 1;
+const NO_PART: Part = Part { at: 0, len: 0 };
+
+// The answer where nothing is read.
+const UNREAD: Answered = Answered {
+    head: Head {
+        client: ClientId(0),
+        session: SessionId(0),
+        found_code: 0,
+        payload: NO_PART,
+        rest: NO_PART,
+    },
+    verdict: Verdict::Accepted,
+    place: 0,
+    skipped: 0,
+};
+
+// The answer where nothing is written.
+const UNWRITTEN: Written = Written {
+    verdict: Verdict::Accepted,
+    len: 0,
+};
+
+// Reads a datagram into the same rows as often as is asked, and gives the last answer.
+pub fn read_often(d: &[u8], e: Expected, t: Table, rows: &mut [Row; 64], times: u16) -> Answered {
+    let mut last = UNREAD;
+    for _ in 0..times {
+        last = rows::read_message(d, e, t, rows);
     }
-    show::answer(last);
-    rows
+    last
 }
 
-// Writes the message of the first n of the rows as often as is left, and gives the last answer. For this program alone, whose count of rows is
-// never over 64.
+// Writes the message of the lent rows as often as is asked, and gives the last answer.
 pub fn write_often(
     h: Header,
-    rows: [Row; 64],
-    n: usize,
+    lent: &[Row],
     t: Table,
     content: &[u8],
     out: &mut [u8],
-    mut left: usize,
-    mut last: Written,
-) -> Written
-    requires { n ≤ 64 }
-{
-    let lent = &rows[..n];
-    while 0 < left {
+    times: u16,
+) -> Written {
+    let mut last = UNWRITTEN;
+    for _ in 0..times {
         last = rows::write_message(h, lent, t, content, out);
-        left -= 1;
     }
     last
 }

@@ -5,52 +5,31 @@ mod input;
 mod lent;
 mod show;
 
-use payload::table::Table;
-
-// Writes a message n times, and shows the last answer and the output.
-fn write(b: &[u8; 4096], t: Table, content: &[u8], out: &mut [u8], n: usize) {
-    let w = lent::write_often(
-        input::header(b),
-        input::rows(b),
-        input::count(b),
-        t,
-        content,
-        out,
-        n,
-        input::unwritten(),
-    );
-    show::written(w, out);
-}
+// Where the datagram or the content begins.
+const CONTENT_AT: usize = 2048;
 
 // Runs what the input says: bench/workloads.py has what stands where.
 fn run(b: &[u8; 4096]) {
     let t = input::table(b);
-    let n = input::repeats(b);
-    let all = &b[..];
-    let from = input::within(all, 2048);
-    let behind = &all[from..];
-    let end = input::within(behind, input::size(b));
-    let data = &behind[..end];
+    let times = input::repeats(b);
+    let behind = &b[CONTENT_AT..];
+    let bytes = &behind[..input::size(b).min(behind.len())];
+    let mut rows = input::rows(b);
     if b[0] == b'r' {
-        let rows = lent::read_often(
-            data,
-            input::expected(b),
-            t,
-            n,
-            input::rows(b),
-            input::nothing(),
-        );
-        show::rows(rows, t.count);
+        let last = lent::read_often(bytes, input::expected(b), t, &mut rows, times);
+        show::read(last, &rows[..input::count(b)]);
     } else {
-        let mut out = [0u8; 2048];
-        let room = input::within(&out, input::room(b));
-        write(b, t, data, &mut out[..room], n);
+        let mut buffer = [0; 2048];
+        let out = &mut buffer[..input::room(b).min(2048)];
+        let lent = &rows[..input::count(b)];
+        let last = lent::write_often(input::header(b), lent, t, bytes, out, times);
+        show::written(last, out);
     }
 }
 
 // The input is a form of 4,096 bytes; what is missing of it is 0.
 fn main() {
-    let mut b = [0u8; 4096];
+    let mut b = [0; 4096];
     io::read_full(0, &mut b);
     run(&b);
 }

@@ -5,7 +5,7 @@ use Prim.Native.Nat.{ℕ, zero, suc, ◌+◌, ◌*◌, ◌≤◌, ◌<◌}
 use native.Mathlib.Omega.{arith}
 use native.Mathlib.Numerals.{add-one}
 use mathlib.Core.List.{List, [], ◌∷◌, ◌++◌}
-use lib.ListN.{length, take, drop, get_or, set, length-append, length-drop}
+use lib.ListN.{length, set, take, drop, get_or, length-append, length-drop}
 use lib.Seq.{sets, sets-eq, take-suc, take_at, drop_at, drop-append-add, drop-drop, length-take-le, get_or-take}
 use Rattle.payload.specs.declared.row.Row.{Row}
 use Rattle.payload.specs.declared.row.Value.{Value}

@@ -8,6 +8,8 @@ use mathlib.Core.Bool.{Bool, true, false, false≢true}
 use mathlib.Core.List.{List}
 use lib.ListN.{length, set, length-set, replicate}
 use lib.Dec.{leb, eqb}
+use Rattle.std.specs.Prelude.{Option, None, Some, SomeIff, Result, Ok, Err, OkIff}
+use Rattle.std.specs.Result.{result_ok}
 use borrow.Author.Tests.{le-leb, lt-leb, leb-true}
 use Rattle.wire.specs.Choose.{pick, and}
 use Rattle.payload.specs.declared.table.TypeRow.{TypeRow}
@@ -61,6 +63,44 @@ module _ (l x k e q : ℕ) where
       → record { level = l; ident = x; kind = k; elem = e; required = eqb q 1 } ≡ type_row_of l x k e q
   unfolding type_row_of
   row_held hl hx hk he hq = simp (le-leb l 255 hl, le-leb x 65535 hx, le-leb k 255 hk, le-leb e 255 he, le-leb q 1 hq)
+
+-- ---- one number
+
+-- a number, as a narrower type holds it
+pub record Narrowed (bound n x : ℕ) : Type 0 where
+  pub below : n < bound
+  pub same : x ≡ n
+
+module _ {E : Type 0} (r : Result ℕ E) (o : Option ℕ) (n bound : ℕ) where
+  pub too_wide : OkIff r (n < bound) n → o ≡ result_ok r → o ≡ None → n < bound → ⊥
+  too_wide = go r
+    where
+      go : (s : Result ℕ E) → OkIff s (n < bound) n → o ≡ result_ok s → o ≡ None → n < bound → ⊥
+      go (Ok y) h e none low = cc
+      go (Err d) h e none low = h low
+
+  pub narrowed : (x : ℕ) → OkIff r (n < bound) n → o ≡ result_ok r → o ≡ Some x → Narrowed bound n x
+  narrowed x = go r
+    where
+      go : (s : Result ℕ E) → OkIff s (n < bound) n → o ≡ result_ok s → o ≡ Some x → Narrowed bound n x
+      go (Ok y) h e some = let same : x ≡ y = cc in record { below = h.0; same = same ∙ h.1 }
+      go (Err d) h e some = absurd (cc)
+
+-- a mark, which is 0 or 1
+module _ (o : Option Bool) (n : ℕ) where
+  pub too_wild : SomeIff o (n ≤ 1) (eqb n 1) → o ≡ None → n ≤ 1 → ⊥
+  too_wild = go o
+    where
+      go : (p : Option Bool) → SomeIff p (n ≤ 1) (eqb n 1) → p ≡ None → n ≤ 1 → ⊥
+      go None h e low = h low
+      go (Some b) h e low = cc
+
+  pub marked : (b : Bool) → SomeIff o (n ≤ 1) (eqb n 1) → o ≡ Some b → (n ≤ 1) × (b ≡ eqb n 1)
+  marked b = go o
+    where
+      go : (p : Option Bool) → SomeIff p (n ≤ 1) (eqb n 1) → p ≡ Some b → (n ≤ 1) × (b ≡ eqb n 1)
+      go None h e = absurd (cc)
+      go (Some d) h e = let same : b ≡ d = cc in (h.0, same ∙ h.1)
 
 -- ---- rows
 

@@ -1,20 +1,24 @@
 -- Which value rows numbers stand for.
 -- Assumes nothing.
 use mathlib.Core.Path.{◌≡◌, refl, sym, ap, ◌∙◌}
-use Prim.Native.Nat.{ℕ, zero, suc, ◌+◌, ◌*◌, ◌/◌, ◌^◌, ◌≤◌, ◌<◌}
+use Prim.Native.Nat.{ℕ, zero, suc, ◌+◌, ◌-◌, ◌*◌, ◌/◌, ◌^◌, ◌≤◌, ◌<◌, min}
 use native.Mathlib.Omega.{arith}
 use native.Mathlib.Numerals.{add-one}
 use mathlib.Core.Bool.{Bool, true, false}
 use mathlib.Core.List.{List, ◌∷◌}
 use lib.ListN.{length, set, length-set, get_or, replicate}
+use lib.IntN.{pos, negsuc}
+use mir.Syntax.{w64}
+use mir.Val.{to_z}
+use mir.Facts.{to_z_pos, to_z-neg}
 use lib.Seq.{get_or-set_same, get_or-set_other}
 use lib.Dec.{leb, ltb, eqb}
-use borrow.Author.Tests.{ne_eqb, eqb-true, eqb-false, lt-ltb, le-ltb, ltb-true, ltb-false}
+use borrow.Author.Tests.{ne_eqb, eqb-true, eqb-false, ltb-true, ltb-false}
 use Rattle.wire.specs.Choose.{pick, and}
 use Rattle.wire.specs.Kind.{size_of}
 use Rattle.wire.specs.Number.{signed_of, signed_by}
 use Rattle.payload.specs.declared.table.TypeRow.{TypeRow}
-use Rattle.payload.specs.declared.judge.Judged.TheVariants.{Unfit}
+use Rattle.payload.specs.Judging.{Unfit}
 use Rattle.payload.specs.declared.row.Row.{Row}
 use Rattle.payload.specs.declared.row.Value.TheVariants.{Unsigned, Signed, Bytes}
 use Rattle.payload.specs.Row.{plain, absent_row, members_row, is_absent}
@@ -32,6 +36,17 @@ module _ (w n p l : ℕ) where
   pub row_unsigned : w ≡ 1 → plain (Unsigned n) ≡ row_of w n p l
   unfolding row_of
   row_unsigned h = rw h
+
+  -- eight bytes' two's complement is the number's signed reading
+  pub read_signed : n < 18446744073709551616 → to_z w64 n ≡ signed_by 9223372036854775808 n
+  read_signed fits = go (ltb n 9223372036854775808) refl
+    where
+      go : (b : Bool) → ltb n 9223372036854775808 ≡ b → to_z w64 n ≡ pick b (pos n) (negsuc (18446744073709551615 - n))
+      go true h = to_z_pos w64 (ltb-true _ _ h)
+      go false h =
+          let large : 9223372036854775808 ≤ n = ltb-false _ _ h in
+          let back : 18446744073709551616 - suc (18446744073709551615 - n) ≡ n = omega arith in
+          ap (to_z w64) (sym back) ∙ to_z-neg w64 (18446744073709551615 - n) (omega arith)
 
   pub row_signed : w ≡ 2 → plain (Signed (signed_by 9223372036854775808 n)) ≡ row_of w n p l
   unfolding row_of signed_of
@@ -110,13 +125,13 @@ unfolding rows_of
 rows_of_is values n rows h e = rw (e, h)
 
 module _ (len : ℕ) where
-  pub lent_all : len / 4 ≤ 64 → len / 4 ≡ lent_of len
+  pub lent_min : min (len / 4) 64 ≡ lent_of len
   unfolding lent_of
-  lent_all h = simp (le-ltb 64 (len / 4) h)
-
-  pub lent_most : 64 < len / 4 → 64 ≡ lent_of len
-  unfolding lent_of
-  lent_most h = simp (lt-ltb 64 (len / 4) h)
+  lent_min = go (ltb 64 (len / 4)) refl
+    where
+      go : (b : Bool) → ltb 64 (len / 4) ≡ b → min (len / 4) 64 ≡ pick b 64 (len / 4)
+      go true h = let many : 64 < len / 4 = ltb-true _ _ h in omega arith
+      go false h = let few : len / 4 ≤ 64 = ltb-false _ _ h in omega arith
 
   -- no more than 64, and no more than the numbers hold
   within : (lent_of len ≤ 64) × (4 * lent_of len ≤ len)

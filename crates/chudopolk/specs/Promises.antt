@@ -3,7 +3,7 @@
 use Rattle.std.specs.Prelude.{◌≡◌, ℕ, ◌+◌, ◌*◌, ◌^◌, ◌≤◌, ◌<◌, true, List, ◌∷◌, length, take, drop, get_or, eqb}
 use Rattle.payload.specs.declared.table.TypeRow.{TypeRow}
 use Rattle.payload.specs.declared.row.Row.{Row}
-use Rattle.payload.specs.declared.judge.Judged.TheVariants.{Unfit}
+use Rattle.payload.specs.Judging.{Unfit}
 use Rattle.payload.specs.Table.{type_rows, row_at as type_at, table_fits}
 use Rattle.payload.specs.declared.row.Value.TheVariants.{Bytes}
 use Rattle.payload.specs.Row.{plain, absent_row, members_row, number_row}

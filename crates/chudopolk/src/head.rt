@@ -1,13 +1,13 @@
 // What crosses beside rows and bytes: what is expected of a header, the fields of one to write, and the answers.
 
 ghost use Rattle.std.specs.Prelude.{◌≡◌};
-ghost use Rattle.chudopolk.specs.Head.{expected_of, code_number, answer_is, header_of, sent_is};
+ghost use Rattle.chudopolk.specs.Head.{code_number};
 
 use message::header::Header;
 use message::message_type::MessageType;
-use message::read::{Expected, Head};
+use message::read::{Expected, MessageReading};
+use payload::write::Written;
 use wire::id::{ClientId, MethodId, ServiceId, SessionId};
-use wire::verdict::Verdict;
 
 // What the caller expects of a header. `kind` is the Message Type.
 #[repr(C)]
@@ -59,14 +59,18 @@ pub struct Sent {
 }
 
 // What the message reader expects.
-pub fn expected_of(e: Expectation) -> Expected
-    ensures { result ≡ expected_of e }
-{
-    Expected {
-        service: ServiceId(e.service),
-        method: MethodId(e.method),
-        interface: e.interface,
-        kind: MessageType(e.kind),
+impl From<Expectation> for Expected {
+    ghost use Rattle.chudopolk.specs.Head.{expected_of};
+
+    ghost from_gives = { λ e x. x ≡ expected_of e };
+
+    fn from(e: Expectation) -> Expected {
+        Expected {
+            service: ServiceId(e.service),
+            method: MethodId(e.method),
+            interface: e.interface,
+            kind: MessageType(e.kind),
+        }
     }
 }
 
@@ -81,45 +85,59 @@ fn code_number(c: Option<u8>) -> u32
 }
 
 // The answer to a reading.
-pub fn answer_of(h: Head, v: Verdict, place: usize, skipped: usize) -> Answer
-    ensures { result ≡ answer_is h v place skipped }
-{
-    Answer {
-        verdict: v.number() as u32,
-        code: code_number(v.return_code()),
-        place: place,
-        skipped: skipped,
-        client: h.client.0,
-        session: h.session.0,
-        found_code: h.found_code,
-        payload_at: h.payload.at,
-        payload_len: h.payload.len,
-        rest_at: h.rest.at,
-        rest_len: h.rest.len,
+impl From<MessageReading> for Answer {
+    ghost use Rattle.chudopolk.specs.Head.{answer_of};
+
+    ghost from_gives = { λ m a. a ≡ answer_of m };
+
+    fn from(m: MessageReading) -> Answer {
+        let v = m.reading.verdict;
+        let h = m.head;
+        Answer {
+            verdict: u32::from(v.number()),
+            code: code_number(v.return_code()),
+            place: m.reading.place,
+            skipped: m.reading.skipped,
+            client: h.client.0,
+            session: h.session.0,
+            found_code: h.found_code,
+            payload_at: h.payload.at,
+            payload_len: h.payload.len,
+            rest_at: h.rest.at,
+            rest_len: h.rest.len,
+        }
     }
 }
 
 // The header that the message writer is handed.
-pub fn header_of(f: Fields) -> Header
-    ensures { result ≡ header_of f }
-{
-    Header {
-        service: ServiceId(f.service),
-        method: MethodId(f.method),
-        client: ClientId(f.client),
-        session: SessionId(f.session),
-        interface: f.interface,
-        kind: MessageType(f.kind),
-        code: f.code,
+impl From<Fields> for Header {
+    ghost use Rattle.chudopolk.specs.Head.{header_of};
+
+    ghost from_gives = { λ f h. h ≡ header_of f };
+
+    fn from(f: Fields) -> Header {
+        Header {
+            service: ServiceId(f.service),
+            method: MethodId(f.method),
+            client: ClientId(f.client),
+            session: SessionId(f.session),
+            interface: f.interface,
+            kind: MessageType(f.kind),
+            code: f.code,
+        }
     }
 }
 
 // The answer to a writing.
-pub fn sent_of(v: Verdict, len: usize) -> Sent
-    ensures { result ≡ sent_is v len }
-{
-    Sent {
-        verdict: v.number() as u32,
-        len: len,
+impl From<Written> for Sent {
+    ghost use Rattle.chudopolk.specs.Head.{sent_of};
+
+    ghost from_gives = { λ w s. s ≡ sent_of w };
+
+    fn from(w: Written) -> Sent {
+        Sent {
+            verdict: u32::from(w.verdict.number()),
+            len: w.len,
+        }
     }
 }

@@ -14,19 +14,24 @@ ghost use Rattle.chudopolk.specs.Head.{answer_of, values_after, sent_of};
 ghost use Rattle.chudopolk.specs.Calls.{check_of, read_of, write_of, out_of};
 
 use head::{Answer, Expectation, Fields, Sent};
+use message::header::Header;
+use message::read::Expected;
 use message::{read, write};
 use payload::table as payload_table;
 use table::Form;
+use wire::verdict::Verdict;
 
 // Whether a type table keeps its rules: 0, or verdict 1.
 #[unsafe(no_mangle)]
 pub extern "C" fn chudopolk_check_table(form: Form, types: &[u64]) -> u32
     ensures { result ≡ check_of form types.now }
 {
-    if payload_table::table_fits(table::table_of(form, types)) {
-        return 0;
-    }
-    1
+    let verdict = if payload_table::table_fits(table::table_of(form, types)) {
+        Verdict::Accepted
+    } else {
+        Verdict::Table
+    };
+    u32::from(verdict.number())
 }
 
 // Reads the message at a datagram's start into lent value rows, four numbers to a row.
@@ -43,13 +48,10 @@ pub extern "C" fn chudopolk_read_message(
         ≡ values_after (read_of datagram.now expected form types.now values.old) values.old }
 {
     let t = table::table_of(form, types);
-    let e = head::expected_of(expected);
+    let e = Expected::from(expected);
     let m = read::read_by_value(datagram, e, t, values.len() / rows::NUMBERS);
-    let got = m.reading;
-    let all = got.rows;
-    rows::put_rows(values, all, got.filled);
-    let v = got.verdict;
-    head::answer_of(m.head, v, got.place, got.skipped)
+    rows::put_rows(values, m.reading.rows, m.reading.filled);
+    Answer::from(m)
 }
 
 // Writes the message of a header and of lent value rows from the output's start. A refusal changes no byte.
@@ -67,10 +69,9 @@ pub extern "C" fn chudopolk_write_message(
     ensures output { out.new
         ≡ out_of header form types.now values.now content.now out.old }
 {
-    let h = head::header_of(header);
+    let h = Header::from(header);
     let all = rows::rows_of(values);
     let t = table::table_of(form, types);
     let w = write::write_by_value(h, all, values.len() / rows::NUMBERS, t, content, out);
-    let v = w.verdict;
-    head::sent_of(v, w.len)
+    Sent::from(w)
 }

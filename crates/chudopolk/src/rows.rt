@@ -2,8 +2,8 @@
 
 ghost use Rattle.std.specs.Prelude.{◌≡◌, ◌++◌, ◌+◌, ◌*◌, ◌≤◌, ◌<◌, length, take, drop};
 ghost use Rattle.std.proofs.lemmas.List.Edits.{sets};
-ghost use Rattle.payload.specs.Row.{plain as plain_row, absent_row};
-ghost use Rattle.chudopolk.specs.Rows.{numbers_of, listed, flat, float32_row, float64_row, row_of, row_at, lent_of, rows_up_to, rows_of};
+ghost use Rattle.payload.specs.Row.{plain as plain_row};
+ghost use Rattle.chudopolk.specs.Rows.{listed, flat, float32_row, row_at, lent_of, rows_of};
 
 use payload::row::{Row, Value};
 use wire::number;
@@ -25,31 +25,34 @@ fn numbered(what: u64, number: u64) -> Numbers
     ensures { result ≡ record { what = what; number = number; place = 0; len = 0 } }
 {
     Numbers {
-        what: what,
-        number: number,
+        what,
+        number,
         place: 0,
         len: 0,
     }
 }
 
-// The numbers of a row.
-fn numbers_of(r: Row) -> Numbers
-    ensures { result ≡ numbers_of r.value r.bits }
-{
-    let v = r.value;
-    match v {
-        Value::Absent => numbered(0, 0),
-        Value::Unsigned(x) => numbered(1, x),
-        Value::Signed(z) => numbered(2, number::twos_of(z)),
-        Value::Float32(_) => numbered(3, r.bits),
-        Value::Float64(_) => numbered(4, r.bits),
-        Value::Bytes { place, len } => Numbers {
-            what: 5,
-            number: 0,
-            place: place as u64,
-            len: len as u64,
-        },
-        Value::Members => numbered(6, 0),
+// What stands for each value is C's enum chudopolk_what, which `row_of` reads back.
+impl From<Row> for Numbers {
+    ghost use Rattle.chudopolk.specs.Rows.{numbers_of};
+
+    ghost from_gives = { λ r n. n ≡ numbers_of r.value r.bits };
+
+    fn from(r: Row) -> Numbers {
+        match r.value {
+            Value::Absent => numbered(0, 0),
+            Value::Unsigned(x) => numbered(1, x),
+            Value::Signed(z) => numbered(2, number::twos_of(z)),
+            Value::Float32(_) => numbered(3, r.bits),
+            Value::Float64(_) => numbered(4, r.bits),
+            Value::Bytes { place, len } => Numbers {
+                what: 5,
+                number: 0,
+                place: place as u64,
+                len: len as u64,
+            },
+            Value::Members => numbered(6, 0),
+        }
     }
 }
 
@@ -64,24 +67,22 @@ fn put_row(out: &mut [u64], at: usize, n: Numbers)
     out[at + 3] = n.len;
 }
 
-// Stores the numbers of the first n rows over the first of the lent ones; those beyond stay. For this crate's own reading.
+// Stores the numbers of the first n rows over the first of the lent ones; those beyond stay. The rows come by value: of a slice of them LLVM copies the
+// whole array once more, which takes some 400 instructions a message.
 pub fn put_rows(out: &mut [u64], rows: [Row; 64], n: usize)
     requires { (n ≤ 64) × (length rows ≡ 64) × (4 * n ≤ length out.old) }
     ensures { out.new ≡ flat (take n rows) ++ drop (4 * n) out.old }
 {
-    let mut i: usize = 0;
-    while i < n {
-        let row = numbers_of(rows[i]);
-        put_row(out, NUMBERS * i, row);
-        i += 1;
+    for i in 0..n {
+        put_row(out, NUMBERS * i, Numbers::from(rows[i]));
     }
 }
 
 // A row whose value has no bits beside it.
-fn plain(v: Value) -> Row
-    ensures { result ≡ plain_row v }
+fn plain(value: Value) -> Row
+    ensures { result ≡ plain_row value }
 {
-    Row { value: v, bits: 0 }
+    Row { value, bits: 0 }
 }
 
 // The row of a float32 by its bits, which are too many where they are no float32's.
@@ -91,49 +92,34 @@ fn float32_row(bits: u64) -> Row
     let low = bits % 4294967296;
     Row {
         value: Value::Float32(number::float32_of(low as u32)),
-        bits: bits,
+        bits,
     }
 }
 
-// The row of a float64 by its bits.
-fn float64_row(bits: u64) -> Row
-    ensures { result ≡ float64_row bits }
-{
-    Row {
-        value: Value::Float64(number::float64_of(bits)),
-        bits: bits,
-    }
-}
+// The row of numbers. Where `what` says no value it is a float32 with too many bits, which is of no kind.
+impl From<Numbers> for Row {
+    ghost use Rattle.chudopolk.specs.Rows.{row_of};
 
-// The row of four numbers. Where `what` says no value it is a float32 with too many bits, which is of no kind.
-fn row_of(what: u64, number: u64, place: u64, len: u64) -> Row
-    ensures { result ≡ row_of what number place len }
-{
-    if what == 0 {
-        return plain(Value::Absent);
+    ghost from_gives = { λ n r. r ≡ row_of n.what n.number n.place n.len };
+
+    fn from(n: Numbers) -> Row {
+        match n.what {
+            0 => plain(Value::Absent),
+            1 => plain(Value::Unsigned(n.number)),
+            2 => plain(Value::Signed(n.number.cast_signed())),
+            3 => float32_row(n.number),
+            4 => Row {
+                value: Value::Float64(number::float64_of(n.number)),
+                bits: n.number,
+            },
+            5 => plain(Value::Bytes {
+                place: n.place as usize,
+                len: n.len as usize,
+            }),
+            6 => plain(Value::Members),
+            _ => float32_row(4294967296),
+        }
     }
-    if what == 1 {
-        return plain(Value::Unsigned(number));
-    }
-    if what == 2 {
-        return plain(Value::Signed(number::signed_of(number, 9223372036854775808)));
-    }
-    if what == 3 {
-        return float32_row(number);
-    }
-    if what == 4 {
-        return float64_row(number);
-    }
-    if what == 5 {
-        return plain(Value::Bytes {
-            place: place as usize,
-            len: len as usize,
-        });
-    }
-    if what == 6 {
-        return plain(Value::Members);
-    }
-    float32_row(4294967296)
 }
 
 // The row of the four numbers from 4 · i on.
@@ -142,18 +128,19 @@ fn row_at(values: &[u64], i: usize) -> Row
     ensures { result ≡ row_at values.now i }
 {
     let at = NUMBERS * i;
-    row_of(values[at], values[at + 1], values[at + 2], values[at + 3])
+    Row::from(Numbers {
+        what: values[at],
+        number: values[at + 1],
+        place: values[at + 2],
+        len: values[at + 3],
+    })
 }
 
 // How many of the lent rows are taken: as many as there are, and 64 at most.
 fn lent(len: usize) -> usize
     ensures { result ≡ lent_of len }
 {
-    let n = len / NUMBERS;
-    if 64 < n {
-        return 64;
-    }
-    n
+    (len / NUMBERS).min(64)
 }
 
 // The first 64 of the lent rows; where fewer are lent, absent rows follow.
@@ -162,11 +149,8 @@ pub fn rows_of(values: &[u64]) -> [Row; 64]
 {
     let n = lent(values.len());
     let mut rows = [plain(Value::Absent); 64];
-    let mut i: usize = 0;
-    while i < n {
-        let row = row_at(values, i);
-        rows[i] = row;
-        i += 1;
+    for i in 0..n {
+        rows[i] = row_at(values, i);
     }
     rows
 }

@@ -1,13 +1,22 @@
 // Type tables as numbers.
 
-ghost use Rattle.std.specs.Prelude.{◌≡◌, ◌+◌, ◌*◌, ◌≤◌, ◌<◌, length};
+ghost use Rattle.std.specs.Prelude.{◌≡◌, ◌+◌, ◌*◌, ◌≤◌, ◌<◌, length, eqb, unwrap_or, SomeIff};
 ghost use Rattle.payload.specs.Table.{no_row};
-ghost use Rattle.chudopolk.specs.Table.{type_row_of, type_row_at, type_rows_of, taken_of, table_of};
+ghost use Rattle.chudopolk.specs.Table.{type_row_at, type_rows_of, taken_of, table_of};
 
 use payload::table::{Table, TypeRow};
 
 // The numbers of a type row: level, Data ID, kind, element kind, and 1 for required or 0 for optional.
 const NUMBERS: usize = 5;
+
+// A row that no table may have.
+const NO_ROW: TypeRow = TypeRow {
+    level: 0,
+    ident: 0,
+    kind: 0,
+    elem: 0,
+    required: false,
+};
 
 // A type table beside its rows: how many there are, the width of length fields, and 1 where the writer uses the static wire type or 0 where
 // it tells the width in the tag.
@@ -19,60 +28,26 @@ pub struct Form {
     pub fixed: u32,
 }
 
-// A row that no table may have.
-fn no_row() -> TypeRow
-    ensures { result ≡ no_row }
+// What a mark says, which is 0 or 1; none where it is wild.
+fn mark_of(number: u64) -> Option<bool>
+    ensures { SomeIff result (number ≤ 1) (eqb number 1) }
 {
-    TypeRow {
-        level: 0,
-        ident: 0,
-        kind: 0,
-        elem: 0,
-        required: false,
-    }
+    (number <= 1).then_some(number == 1)
 }
 
-// The type row of five numbers. Where one is wild there is no such row.
-fn type_row(level: u64, ident: u64, kind: u64, elem: u64, required: u64) -> TypeRow
-    ensures { result ≡ type_row_of level ident kind elem required }
-{
-    if 255 < level {
-        return no_row();
-    }
-    if 65535 < ident {
-        return no_row();
-    }
-    if 255 < kind {
-        return no_row();
-    }
-    if 255 < elem {
-        return no_row();
-    }
-    if 1 < required {
-        return no_row();
-    }
-    TypeRow {
-        level: level as u8,
-        ident: ident as u16,
-        kind: kind as u8,
-        elem: elem as u8,
-        required: required == 1,
-    }
-}
-
-// The type row of the five numbers from 5 · i on.
-fn type_row_at(numbers: &[u64], i: usize) -> TypeRow
+// The type row of the five numbers from 5 · i on; none where one of them is wild.
+fn type_row(numbers: &[u64], i: usize) -> Option<TypeRow>
     requires { (i < 64) × (5 * i + 5 ≤ length numbers.now) }
-    ensures { result ≡ type_row_at numbers.now i }
+    ensures { unwrap_or result no_row ≡ type_row_at numbers.now i }
 {
     let at = NUMBERS * i;
-    type_row(
-        numbers[at],
-        numbers[at + 1],
-        numbers[at + 2],
-        numbers[at + 3],
-        numbers[at + 4],
-    )
+    Some(TypeRow {
+        level: u8::try_from(numbers[at]).ok()?,
+        ident: u16::try_from(numbers[at + 1]).ok()?,
+        kind: u8::try_from(numbers[at + 2]).ok()?,
+        elem: u8::try_from(numbers[at + 3]).ok()?,
+        required: mark_of(numbers[at + 4])?,
+    })
 }
 
 // The first n rows of a table.
@@ -80,12 +55,9 @@ fn rows_of(numbers: &[u64], n: usize) -> [TypeRow; 64]
     requires { (n ≤ 64) × (5 * n ≤ length numbers.now) }
     ensures { result ≡ type_rows_of n numbers.now }
 {
-    let mut rows = [no_row(); 64];
-    let mut i: usize = 0;
-    while i < n {
-        let row = type_row_at(numbers, i);
-        rows[i] = row;
-        i += 1;
+    let mut rows = [NO_ROW; 64];
+    for i in 0..n {
+        rows[i] = type_row(numbers, i).unwrap_or(NO_ROW);
     }
     rows
 }
@@ -94,17 +66,11 @@ fn rows_of(numbers: &[u64], n: usize) -> [TypeRow; 64]
 fn taken(form: Form, len: usize) -> usize
     ensures { result ≡ taken_of form len }
 {
-    let count = form.count;
-    if 64 < count {
-        return 0;
+    if form.count <= 64 && NUMBERS * form.count <= len && form.fixed <= 1 {
+        form.count
+    } else {
+        0
     }
-    if len < NUMBERS * count {
-        return 0;
-    }
-    if 1 < form.fixed {
-        return 0;
-    }
-    count
 }
 
 // The table that a form and numbers stand for.

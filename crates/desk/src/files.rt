@@ -1,54 +1,109 @@
-// Datagrams in files, as bytes or as hexadecimal digits.
+// Files by what they have: a table, values, or a datagram as bytes or as hexadecimal digits.
 
-ghost use Rattle.std.specs.Prelude.{◌≡◌, length};
-ghost use Rattle.text.specs.Input.{Taken};
-
-use super::{complain, hex, phrase};
-use std::io;
+use super::complaint::{Complaint, Fault};
+use super::hex;
+use std::alloc::AllocFailed;
+use std::io::Write;
 use std::rt::Files;
-use text::file::Standard;
-use text::input::Input;
-use text::{file, slice};
+use std::{fmt, io};
+use text::failure::Reason;
+use text::file::Inputs;
+use text::input::InputError;
 
-// 262,144 zeros, for the digits of the longest datagram with white space between them.
-fn digits_buffer() -> [u8; 262144]
-    ensures { 262144 ≡ length result }
-{
-    [0; 262144]
+// What a file has.
+#[derive(Clone, Copy)]
+pub enum Content {
+    Table,
+    Values,
+    Datagram,
+    Digits,
 }
 
-// Reads a datagram from a file that has its bytes as hexadecimal digits.
-fn read_digits<R: Files + io::Input>(
-    rt: &R,
-    standard: &mut Standard,
-    path: &[u8],
-    buf: &mut [u8],
-) -> Input
-    ensures { Taken buf.new result }
-{
-    let mut all = digits_buffer();
-    match file::read_file(rt, standard, path, &mut all) {
-        Input::Bytes(n) => hex::bytes_of(path, slice::between(&all, 0, n), buf),
-        Input::Long => {
-            complain::of_file(path, phrase::LONG_DIGITS);
-            Input::Failed
+impl Content {
+    // The most bytes that are read.
+    fn most(self) -> usize {
+        match self {
+            Content::Table | Content::Values | Content::Datagram => 65535,
+            Content::Digits => 262143,
         }
-        Input::Failed => Input::Failed,
     }
 }
 
-// Reads a datagram from a file, as bytes or as hexadecimal digits. It has at most one byte less than the buffer.
-pub fn read_datagram<R: Files + io::Input>(
-    rt: &R,
-    standard: &mut Standard,
-    path: &[u8],
-    is_hex: bool,
-    buf: &mut [u8],
-) -> Input
-    ensures { Taken buf.new result }
-{
-    if is_hex {
-        return read_digits(rt, standard, path, buf);
+// Behind a number of bytes: what has so many at most.
+impl fmt::Display for Content {
+    fn fmt<W: fmt::Write>(&self, f: &mut fmt::Formatter<W>) -> fmt::Result {
+        f.write_str(match self {
+            Content::Table => "a table file has",
+            Content::Values => "a file of values has",
+            Content::Datagram => "a datagram has",
+            Content::Digits => "is read as hexadecimal digits",
+        })
     }
-    file::read_file(rt, standard, path, buf)
+}
+
+// Why there is nothing of a file.
+#[derive(Drop)]
+pub enum FileFault {
+    Unread(io::Error),
+    Long(Content),
+    OddDigits,
+    NoDigit,
+    OutOfMemory,
+}
+
+impl Fault for FileFault {
+    fn write<W: Write>(&self, out: &mut W) -> io::Result<()> {
+        match self {
+            FileFault::Unread(error) => write!(out, "{}", Reason(error)),
+            FileFault::Long(content) => write!(
+                out,
+                "longer than {} bytes, the most that {content}",
+                content.most()
+            ),
+            FileFault::OddDigits => write!(out, "an odd number of hexadecimal digits"),
+            FileFault::NoDigit => {
+                write!(
+                    out,
+                    "something other than hexadecimal digits and white space"
+                )
+            }
+            FileFault::OutOfMemory => write!(out, "out of memory"),
+        }
+    }
+}
+
+// There is no room for the bytes of digits.
+impl<T: Drop> From<AllocFailed<T>> for FileFault {
+    fn from(_fault: AllocFailed<T>) -> FileFault {
+        FileFault::OutOfMemory
+    }
+}
+
+// The bytes of a file.
+pub fn read<R: Files + io::Input + AllocGlobal>(
+    inputs: &mut Inputs<'_, R>,
+    path: &[u8],
+    content: Content,
+) -> Result<Vec<u8>, Complaint<FileFault>> {
+    inputs.read_whole(path, content.most()).map_err(|error| {
+        Complaint::of_file(match error {
+            InputError::TooLong => FileFault::Long(content),
+            InputError::Unread(why) => FileFault::Unread(why),
+        })
+    })
+}
+
+// The datagram of a file, which has its bytes, or has them as hexadecimal digits.
+pub fn read_datagram<R: Files + io::Input + AllocGlobal>(
+    inputs: &mut Inputs<'_, R>,
+    path: &[u8],
+    content: Content,
+) -> Result<Vec<u8>, Complaint<FileFault>> {
+    let bytes = read(inputs, path, content)?;
+    match content {
+        Content::Digits => {
+            hex::bytes_of(*bytes.allocator(), &bytes).map_err(|fault| Complaint::of_file(fault))
+        }
+        _ => Ok(bytes),
+    }
 }

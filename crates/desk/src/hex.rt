@@ -1,64 +1,45 @@
 // Bytes written as hexadecimal digits.
 
-ghost use Rattle.text.specs.Input.{Taken};
+use super::files::{Content, FileFault};
+use std::alloc::Global;
 
-use super::{complain, phrase};
-use text::input::Input;
-use text::number;
+// The most bytes that digits are read as.
+const BYTES_MOST: usize = 65535;
 
 // Whether a byte may stand between digits.
 fn is_space(b: u8) -> bool {
+    matches!(b, b' ' | b'\t' | b'\r' | b'\n')
+}
+
+// The number of a digit.
+fn digit(b: u8) -> Result<u8, FileFault> {
     match b {
-        b' ' | b'\t' | b'\r' | b'\n' => true,
-        _ => false,
+        b'0'..=b'9' => Ok(b - b'0'),
+        b'A'..=b'F' => Ok(b - b'A' + 10),
+        b'a'..=b'f' => Ok(b - b'a' + 10),
+        _ => Err(FileFault::NoDigit),
     }
 }
 
-// Says that something is no digit and no white space.
-fn say_odd(path: &[u8]) {
-    complain::of_file(path, phrase::NO_DIGITS);
-}
-
-// The byte of two digits.
-fn byte_of(high: u64, low: u64) -> u8 {
-    (high % 16 * 16 + low % 16) as u8
-}
-
-// Puts the bytes of digits at the start of `out`. Two digits are a byte; white space may stand anywhere. Where there is anything else, or a digit
-// too many, a message says so.
-pub fn bytes_of(path: &[u8], s: &[u8], out: &mut [u8]) -> Input
-    ensures { Taken out.new result }
-{
-    let mut n: usize = 0;
-    let mut high: u64 = 16;
-    let mut i: usize = 0;
-    while i < s.len() {
-        let b = s[i];
-        i += 1;
-        if !is_space(b) {
-            let d = number::digit(b);
-            if d == 16 {
-                say_odd(path);
-                return Input::Failed;
-            }
-            if out.len() <= n {
-                return Input::Long;
-            }
-            if high == 16 {
-                high = d;
-            } else {
-                out[n] = byte_of(high, d);
-                high = 16;
-                n += 1;
-            }
+// The bytes of digits. Two digits are a byte; white space may stand anywhere.
+pub fn bytes_of(alloc: Global, text: &[u8]) -> Result<Vec<u8>, FileFault> {
+    let mut bytes = Vec::new(alloc);
+    let mut high = None;
+    for b in text.iter().filter(|b| !is_space(**b)) {
+        let low = digit(*b)?;
+        if BYTES_MOST < bytes.len() {
+            return Err(FileFault::Long(Content::Datagram));
+        }
+        match high.take() {
+            Some(high) => bytes.push(high << 4 | low)?,
+            None => high = Some(low),
         }
     }
-    if high != 16 {
-        complain::of_file(path, phrase::ODD_DIGITS);
-        return Input::Failed;
+    if high.is_some() {
+        return Err(FileFault::OddDigits);
     }
-    if out.len() <= n {
-        return Input::Long;
+    if BYTES_MOST < bytes.len() {
+        return Err(FileFault::Long(Content::Datagram));
     }
-    Input::Bytes(n)
+    Ok(bytes)
 }

@@ -1,71 +1,137 @@
-// The fourteen kinds by name and number.
+// The fourteen kinds of rows by name and number.
 
-use text::list;
-use wire::number;
+ghost use Rattle.std.specs.Prelude.{◌<◌, ◌≤◌};
 
-pub const BOOLEAN: u8 = 1;
+use super::float::Precision;
+use text::word;
+use wire::kind as wire_kind;
 
-pub const SINT8: u8 = 6;
-
-pub const FLOAT32: u8 = 10;
-
-pub const FLOAT64: u8 = 11;
-
-pub const STRING: u8 = 12;
-
-pub const ARRAY: u8 = 13;
-
-pub const STRUCT: u8 = 14;
-
-// The kind of a name, or 0.
-pub fn of_name(word: &[u8]) -> u8 {
-    let n = list::index(
-        b";boolean;uint8;uint16;uint32;uint64;sint8;sint16;sint32;sint64;float32;float64;string;array;struct;",
-        word,
-    );
-    if n < 15 {
-        return n as u8;
-    }
-    0
+// A kind of one number, which an array's elements can have too, with its number in a type row.
+#[derive(Clone, Copy, PartialEq, Eq)]
+pub enum Scalar {
+    Boolean = 1,
+    Uint8 = 2,
+    Uint16 = 3,
+    Uint32 = 4,
+    Uint64 = 5,
+    Sint8 = 6,
+    Sint16 = 7,
+    Sint32 = 8,
+    Sint64 = 9,
+    Float32 = 10,
+    Float64 = 11,
 }
 
-// The bytes of a kind from 1 to 11, and 0 of the others.
-pub fn size(k: u8) -> usize {
-    match k {
-        1 | 2 | 6 => 1,
-        3 | 7 => 2,
-        4 | 8 | 10 => 4,
-        5 | 9 | 11 => 8,
-        _ => 0,
+// What the bytes of a kind's numbers stand for: the most of an unsigned kind, the least of a signed one, how wide a float is.
+#[derive(Clone, Copy)]
+pub enum Form {
+    Boolean,
+    Unsigned { most: u64 },
+    Signed { least: i64 },
+    Float(Precision),
+}
+
+impl Scalar {
+    // How many bytes a number of the kind has.
+    pub fn size(self) -> usize
+        ensures { (0 < result) × (result ≤ 8) }
+    {
+        wire_kind::size_of(self as usize)
+    }
+
+    // What the bytes stand for.
+    pub fn form(self) -> Form {
+        match self {
+            Scalar::Boolean => Form::Boolean,
+            Scalar::Uint8 => Form::Unsigned {
+                most: u64::from(u8::MAX),
+            },
+            Scalar::Uint16 => Form::Unsigned {
+                most: u64::from(u16::MAX),
+            },
+            Scalar::Uint32 => Form::Unsigned {
+                most: u64::from(u32::MAX),
+            },
+            Scalar::Uint64 => Form::Unsigned { most: u64::MAX },
+            Scalar::Sint8 => Form::Signed {
+                least: i64::from(i8::MIN),
+            },
+            Scalar::Sint16 => Form::Signed {
+                least: i64::from(i16::MIN),
+            },
+            Scalar::Sint32 => Form::Signed {
+                least: i64::from(i32::MIN),
+            },
+            Scalar::Sint64 => Form::Signed { least: i64::MIN },
+            Scalar::Float32 => Form::Float(Precision::Single),
+            Scalar::Float64 => Form::Float(Precision::Double),
+        }
     }
 }
 
-// The largest value of an unsigned kind; the number of values from 0 on of a signed one.
-pub fn bound(k: u8) -> u64 {
-    match k {
-        1 => 1,
-        2 => 255,
-        3 => 65535,
-        4 => 4294967295,
-        6 => 128,
-        7 => 32768,
-        8 => 2147483648,
-        9 => 9223372036854775808,
-        _ => 18446744073709551615,
+// A row's kind, an array's with that of its elements.
+#[derive(Clone, Copy, PartialEq, Eq)]
+pub enum Kind {
+    Scalar(Scalar),
+    Text,
+    Array(Scalar),
+    Struct,
+}
+
+impl Kind {
+    // The kind's number in a type row.
+    pub fn number(self) -> u8 {
+        match self {
+            Kind::Scalar(scalar) => scalar as u8,
+            Kind::Text => wire_kind::STRING as u8,
+            Kind::Array(_) => wire_kind::ARRAY as u8,
+            Kind::Struct => wire_kind::STRUCT as u8,
+        }
+    }
+
+    // The number of an array's element kind in a type row, where all other kinds have 0.
+    pub fn element_number(self) -> u8 {
+        match self {
+            Kind::Array(element) => element as u8,
+            _ => 0,
+        }
     }
 }
 
-// The number of a signed kind whose two's complement is v; 0 where none is.
-pub fn signed_of(v: u64, k: u8) -> i64 {
-    let half = bound(k);
-    if half == 0 {
-        return 0;
+// What a kind's first word says: the kind, or that the word behind it is an array's element kind.
+#[derive(Clone, Copy)]
+pub enum KindWord {
+    Is(Kind),
+    Array,
+}
+
+// The words that name kinds.
+const NAMES: [(&str, KindWord); 14] = [
+    ("boolean", KindWord::Is(Kind::Scalar(Scalar::Boolean))),
+    ("uint8", KindWord::Is(Kind::Scalar(Scalar::Uint8))),
+    ("uint16", KindWord::Is(Kind::Scalar(Scalar::Uint16))),
+    ("uint32", KindWord::Is(Kind::Scalar(Scalar::Uint32))),
+    ("uint64", KindWord::Is(Kind::Scalar(Scalar::Uint64))),
+    ("sint8", KindWord::Is(Kind::Scalar(Scalar::Sint8))),
+    ("sint16", KindWord::Is(Kind::Scalar(Scalar::Sint16))),
+    ("sint32", KindWord::Is(Kind::Scalar(Scalar::Sint32))),
+    ("sint64", KindWord::Is(Kind::Scalar(Scalar::Sint64))),
+    ("float32", KindWord::Is(Kind::Scalar(Scalar::Float32))),
+    ("float64", KindWord::Is(Kind::Scalar(Scalar::Float64))),
+    ("string", KindWord::Is(Kind::Text)),
+    ("array", KindWord::Array),
+    ("struct", KindWord::Is(Kind::Struct)),
+];
+
+// What a word says of a kind.
+pub fn of_word(word: &[u8]) -> Option<KindWord> {
+    word::named(&NAMES, word)
+}
+
+// The kind of numbers that a word names.
+pub fn scalar_of_word(word: &[u8]) -> Option<Scalar> {
+    match of_word(word)? {
+        KindWord::Is(Kind::Scalar(scalar)) => Some(scalar),
+        _ => None,
     }
-    if 9223372036854775808 < half {
-        return 0;
-    }
-    if v / 2 < half {
-        return number::signed_of(v, half);
-    }
-    0
 }

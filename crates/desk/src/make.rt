@@ -1,170 +1,173 @@
 // A datagram from values: each row is looked at, so that a refusal names it; the writer then has the last word.
 
-use super::table_file::Sheet;
+use super::complaint::{Complaint, Fault};
+use super::kind::Kind;
+use super::sheet::{NamedRow, Sheet};
 use super::values::Values;
-use super::{complain, kind, phrase, values, words};
+use super::verdict_word;
 use message::header::Header;
-use message::message_type::MessageType;
 use message::write;
 use payload::row::{Row, Value};
-use payload::table::TypeRow;
-use text::say::{ERR, OUT};
-use text::{say, slice};
-use wire::id::{ClientId, MethodId, ServiceId, SessionId};
+use std::alloc::{AllocError, Global};
+use std::io::Write;
+use std::{fmt, io};
+use wire::id::{ClientId, SessionId};
+use wire::part::{self, Part};
 use wire::text as wire_text;
+use wire::verdict::Verdict;
 
-// Whether a row is present.
-fn is_present(r: Row) -> bool {
-    let v = r.value;
-    match v {
-        Value::Absent => false,
+// The most bytes of a message: its header and the largest payload.
+const MESSAGE_MOST: usize = 1416;
+
+// What a row's value can break.
+#[derive(Clone, Copy)]
+pub enum Rule {
+    Required,
+    Inside,
+    Text,
+}
+
+// Behind the row's name.
+impl fmt::Display for Rule {
+    fn fmt<W: fmt::Write>(&self, f: &mut fmt::Formatter<W>) -> fmt::Result {
+        f.write_str(match self {
+            Rule::Required => "is required and has no value",
+            Rule::Inside => "has a value, and the struct that it is in is absent",
+            Rule::Text => "has a zero byte, or bytes that are no text",
+        })
+    }
+}
+
+// Why values make no datagram: a row, counted from 1, and the rule that its value breaks; or the writer's verdict.
+#[derive(Clone, Copy)]
+pub enum MakeFault<'a> {
+    Row {
+        number: usize,
+        name: &'a str,
+        rule: Rule,
+    },
+    Refused(Verdict),
+    OutOfMemory,
+}
+
+impl Fault for MakeFault<'_> {
+    fn write<W: Write>(&self, out: &mut W) -> io::Result<()> {
+        match self {
+            MakeFault::Row { number, name, rule } => {
+                write!(out, "verdict 30 value: row {number} {name} {rule}")
+            }
+            MakeFault::Refused(verdict) => write!(
+                out,
+                "verdict {} {}{}",
+                verdict.number(),
+                verdict_word::word(*verdict),
+                verdict_word::why(*verdict)
+            ),
+            MakeFault::OutOfMemory => write!(out, "out of memory"),
+        }
+    }
+}
+
+// There is no room for the message.
+impl From<AllocError> for MakeFault<'_> {
+    fn from(_fault: AllocError) -> Self {
+        MakeFault::OutOfMemory
+    }
+}
+
+// A text of a row keeps its rule, where a row of another kind, or an absent one, has none.
+fn text_fits(kind: Kind, value: Value, content: &[u8]) -> bool {
+    match (kind, value) {
+        (Kind::Text, Value::Bytes { place, len }) => {
+            let text = part::part_of(content, Part { at: place, len });
+            wire_text::text_fits(text)
+        }
         _ => true,
     }
 }
 
-// Whether a run of content is text as a string may have it.
-fn is_text(content: &[u8], place: usize, len: usize) -> bool {
-    if content.len() < place {
-        return false;
+// A row's value keeps its rules, where the levels up to `opened` are present.
+fn row_fits(named: &NamedRow<'_>, row: Row, opened: u8, content: &[u8]) -> Result<(), Rule> {
+    let is_absent = matches!(row.value, Value::Absent);
+    if opened < named.level {
+        return if is_absent { Ok(()) } else { Err(Rule::Inside) };
     }
-    if content.len() - place < len {
-        return false;
+    if named.required && is_absent {
+        return Err(Rule::Required);
     }
-    wire_text::text_fits(&content[place..place + len])
-}
-
-// Whether a row that is no string's, or is absent, or has text.
-fn text_fits(r: Row, k: u8, content: &[u8]) -> bool {
-    if k != kind::STRING {
-        return true;
+    if text_fits(named.kind, row.value, content) {
+        return Ok(());
     }
-    let v = r.value;
-    match v {
-        Value::Bytes { place, len } => is_text(content, place, len),
-        _ => true,
-    }
+    Err(Rule::Text)
 }
 
 // The levels that are present behind a row, where those up to `opened` are before it: one more than a present struct's, else the row's own.
-fn opened_by(row: TypeRow, opened: u8, present: bool) -> u8 {
-    if opened < row.level {
+fn opened_by(named: &NamedRow<'_>, row: Row, opened: u8) -> u8 {
+    if opened < named.level {
         return opened;
     }
-    if row.kind == kind::STRUCT {
-        if present {
-            if row.level < 4 {
-                return row.level + 1;
-            }
-        }
+    match row.value {
+        Value::Absent => named.level,
+        _ => named.deepest(),
     }
-    row.level
 }
 
-// Which rule a row's value breaks: 0 required and absent, 1 present in an absent struct, 2 no text; 3 none.
-fn broken(row: TypeRow, r: Row, opened: u8, content: &[u8]) -> usize {
-    let present = is_present(r);
-    if opened < row.level {
-        if present {
-            return 1;
-        }
-        return 3;
+// Every row's value keeps its rules.
+fn rows_fit<'t>(rows: &[Row], content: &[u8], sheet: &Sheet<'t>) -> Result<(), MakeFault<'t>> {
+    let mut opened = 1;
+    for (before, (named, row)) in sheet.rows.iter().zip(rows).enumerate() {
+        row_fits(named, *row, opened, content).map_err(|rule| MakeFault::Row {
+            number: before + 1,
+            name: named.name,
+            rule,
+        })?;
+        opened = opened_by(named, *row, opened);
     }
-    if row.required {
-        if !present {
-            return 0;
-        }
-    }
-    if text_fits(r, row.kind, content) {
-        return 3;
-    }
-    2
-}
-
-// Names a row and the rule that its value breaks.
-fn say_broken(path: &[u8], i: usize, s: Sheet, all: &[u8], rule: usize) {
-    let name = s.name(i);
-    complain::of(path);
-    phrase::item(ERR, phrase::VERDICT, 30);
-    phrase::word(ERR, phrase::VALUE);
-    say::byte(ERR, b':');
-    phrase::field(ERR, phrase::ROW, i as u64 % 64 + 1);
-    say::byte(ERR, b' ');
-    io::write_all(ERR, slice::between(all, name.from, name.to));
-    say::byte(ERR, b' ');
-    phrase::line(ERR, phrase::IS_REQUIRED + rule % 3);
-}
-
-// Which rule the value of a row, counted from 0, breaks.
-fn broken_at(i: usize, v: Values, s: Sheet, opened: u8, content: &[u8]) -> usize {
-    if 64 <= i {
-        return 3;
-    }
-    broken(s.rows[i], v.rows[i], opened, content)
-}
-
-// The levels that are present behind a row, counted from 0.
-fn opened_at(i: usize, v: Values, s: Sheet, opened: u8) -> u8 {
-    if 64 <= i {
-        return opened;
-    }
-    opened_by(s.rows[i], opened, is_present(v.rows[i]))
-}
-
-// Whether every row's value fits, with a message for the first that doesn't.
-fn all_fit(path: &[u8], v: Values, s: Sheet, all: &[u8], content: &[u8]) -> bool {
-    let mut opened: u8 = 1;
-    let mut i: usize = 0;
-    while i < s.count {
-        let rule = broken_at(i, v, s, opened, content);
-        if rule != 3 {
-            say_broken(path, i, s, all, rule);
-            return false;
-        }
-        opened = opened_at(i, v, s, opened);
-        i += 1;
-    }
-    true
+    Ok(())
 }
 
 // The header: what the table expects, and what the values say.
-fn header_of(v: Values, s: Sheet) -> Header {
+fn header(values: &Values, sheet: &Sheet<'_>) -> Header {
     Header {
-        service: ServiceId(s.service),
-        method: MethodId(s.method),
-        client: ClientId(v.client),
-        session: SessionId(v.session),
-        interface: s.interface,
-        kind: MessageType(s.kind),
-        code: v.code,
+        service: sheet.expected.service,
+        method: sheet.expected.method,
+        client: ClientId(values.client),
+        session: SessionId(values.session),
+        interface: sheet.expected.interface,
+        kind: sheet.expected.kind,
+        code: values.code,
     }
 }
 
-// Writes the message to standard output.
-fn write_out(path: &[u8], v: Values, s: Sheet, content: &[u8]) {
-    let mut out = [0u8; 1416];
-    let rows = v.rows;
-    let w = write::write_by_value(header_of(v, s), rows, 64, s.table(), content, &mut out);
-    let verdict = w.verdict;
-    let number = verdict.number();
-    if number != 0 {
-        complain::of(path);
-        words::unwritten(number);
-        return;
+// The message of values, as the writer makes it once every row fits.
+fn message<'t>(
+    alloc: Global,
+    values: &Values,
+    sheet: &Sheet<'t>,
+) -> Result<Vec<u8>, MakeFault<'t>> {
+    let rows = values.rows();
+    rows_fit(&rows, &values.content, sheet)?;
+    let mut out = vec![in alloc; 0; MESSAGE_MOST]?;
+    let written = write::write_by_value(
+        header(values, sheet),
+        rows,
+        64,
+        sheet.table(),
+        &values.content,
+        &mut out,
+    );
+    if written.verdict != Verdict::Accepted {
+        return Err(MakeFault::Refused(written.verdict));
     }
-    if !io::write_all(OUT, slice::between(&out, 0, w.len)) {
-        phrase::line(ERR, phrase::UNWRITTEN);
-    }
+    out.truncate(written.len);
+    Ok(out)
 }
 
-// Makes a datagram of a text of values, or says what is wrong and writes nothing. `all` is the table's text.
-pub fn from_text(path: &[u8], lines: &[u8], s: Sheet, all: &[u8]) {
-    let mut content = io::large_buffer();
-    let v = values::read(path, lines, s, all, &mut content);
-    if !v.ok {
-        return;
-    }
-    let part = slice::between(&content, 0, v.used);
-    if all_fit(path, v, s, all, part) {
-        write_out(path, v, s, part);
-    }
+// The datagram of the values of a file.
+pub fn datagram<'t>(
+    alloc: Global,
+    values: &Values,
+    sheet: &Sheet<'t>,
+) -> Result<Vec<u8>, Complaint<MakeFault<'t>>> {
+    message(alloc, values, sheet).map_err(|fault| Complaint::of_file(fault))
 }

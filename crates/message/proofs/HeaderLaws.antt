@@ -8,13 +8,36 @@ use mathlib.Core.Logic.{◌⊎◌, inl, inr}
 use mathlib.Core.List.{List}
 use lib.ListN.{length, get_or}
 use lib.Dec.{ltb}
-use borrow.Author.Tests.{lt-ltb, le-ltb, ltb-true, ltb-false, le-leb, lt-leb, eq-eqb, ne_eqb}
+use borrow.Author.Tests.{lt-ltb, le-ltb, ltb-true, ltb-false, eq-eqb, ne_eqb}
 use Rattle.wire.specs.Choose.{or}
-use Rattle.wire.specs.Verdict.{verdict_number}
 use Rattle.wire.specs.Header.{field_at, service_of, method_of, version_of, interface_of, type_of, header_len, protocol_version}
-use Rattle.wire.specs.Part.{part, no_part}
+use Rattle.wire.specs.Part.{part}
 use Rattle.wire.specs.declared.verdict.Verdict.{Verdict}
-use Rattle.wire.specs.declared.verdict.Verdict.TheVariants.{Accepted, Protocol, Service, Interface, Method, MessageType}
+use Rattle.wire.specs.declared.verdict.Verdict.TheVariants.{
+  Accepted,
+  Table as NoTable,
+  Room,
+  Short,
+  Length,
+  Protocol,
+  Service,
+  Interface,
+  Method,
+  MessageType,
+  Large,
+  TagCut,
+  Wire,
+  Twice,
+  FieldCut,
+  Overrun,
+  Array,
+  Text,
+  Missing,
+  Value as NoValue,
+  Outside as Past,
+  Wide,
+  Heavy,
+}
 use Rattle.wire.proofs.FieldLaws.{byte_field}
 use Rattle.message.specs.declared.read.Expected.{Expected}
 use Rattle.message.specs.Reading.{length_fails, header_verdict, payload_shown}
@@ -161,15 +184,30 @@ module _ (d : List ℕ) (e : Expected) (h : 16 ≤ length d) where
 
 -- ---- the payload's part
 
-module _ (v : Verdict) (end n : ℕ) (ne : n ≡ verdict_number v) where
-  pub shown_first : n < 12 → part header_len (end - header_len) ≡ payload_shown v end
-  unfolding payload_shown
-  shown_first h = rw (← ne, lt-leb 12 n h)
-
-  pub shown_none : 12 ≤ n → n < 18 → no_part ≡ payload_shown v end
-  unfolding payload_shown
-  shown_none h l = rw (← ne, le-leb 12 n h, le-leb n 17 (omega arith))
-
-  pub shown_last : 18 ≤ n → part header_len (end - header_len) ≡ payload_shown v end
-  unfolding payload_shown
-  shown_last h = rw (← ne, le-leb 12 n (omega arith), lt-leb n 17 (omega arith))
+-- no verdict but those from 12 to 17 leaves it out
+pub shown_given : (v : Verdict) (end : ℕ) → (v ≡ Protocol → ⊥) → (v ≡ Service → ⊥) → (v ≡ Interface → ⊥) → (v ≡ Method → ⊥) → (v ≡ MessageType → ⊥)
+    → (v ≡ Large → ⊥) → part header_len (end - header_len) ≡ payload_shown v end
+unfolding payload_shown
+shown_given Accepted end a b c d e f = refl
+shown_given NoTable end a b c d e f = refl
+shown_given Room end a b c d e f = refl
+shown_given Short end a b c d e f = refl
+shown_given Length end a b c d e f = refl
+shown_given Protocol end a b c d e f = absurd (a refl)
+shown_given Service end a b c d e f = absurd (b refl)
+shown_given Interface end a b c d e f = absurd (c refl)
+shown_given Method end a b c d e f = absurd (d refl)
+shown_given MessageType end a b c d e f = absurd (e refl)
+shown_given Large end a b c d e f = absurd (f refl)
+shown_given TagCut end a b c d e f = refl
+shown_given Wire end a b c d e f = refl
+shown_given Twice end a b c d e f = refl
+shown_given FieldCut end a b c d e f = refl
+shown_given Overrun end a b c d e f = refl
+shown_given Array end a b c d e f = refl
+shown_given Text end a b c d e f = refl
+shown_given Missing end a b c d e f = refl
+shown_given NoValue end a b c d e f = refl
+shown_given Past end a b c d e f = refl
+shown_given Wide end a b c d e f = refl
+shown_given Heavy end a b c d e f = refl

@@ -2,7 +2,7 @@
 -- stood in them before never matters.
 -- Assumes nothing.
 use mathlib.Core.Path.{◌≡◌, refl, sym, ap, ◌∙◌}
-use Prim.Native.Nat.{ℕ, zero, suc, ◌+◌, ◌-◌, ◌≤◌, ◌<◌}
+use Prim.Native.Nat.{ℕ, zero, suc, ◌+◌, ◌-◌, ◌≤◌, ◌<◌, min}
 use native.Mathlib.Omega.{arith}
 use mathlib.Core.Bool.{Bool, true, false}
 use mathlib.Core.List.{List, ◌++◌}
@@ -18,8 +18,7 @@ use Rattle.payload.specs.Outcome.{changes_none}
 use Rattle.message.specs.declared.read.Expected.{Expected}
 use Rattle.message.specs.declared.read.MessageReading.{MessageReading}
 use Rattle.message.specs.Reading.{message_of}
-use Rattle.message.specs.declared.rows.Blank.{Blank}
-use Rattle.message.specs.Rows.{answered_of, rows_after, copied, blank_of}
+use Rattle.message.specs.Rows.{answered_of, rows_after, copied, taken_of, lent_rows}
 use Rattle.message.specs.Promises.{LentLaw, OldRowsIgnored, OneLent, LentWritten}
 use Rattle.message.proofs.MessageLaws.{rows_law}
 
@@ -110,36 +109,47 @@ one_lent d e t old r s rows others p q = (p.0 ∙ sym q.0, p.1 ∙ sym q.1)
 -- ---- rows that are lent to a writing
 
 -- no more lent rows are taken than there are, and 64 at most
-pub blank_within : (len : ℕ) (r : Blank) → r ≡ blank_of len → (r.n ≤ len) × (r.n ≤ 64)
-blank_within len r e = rw e (go (ltb len 64) refl)
+taken_within : (len : ℕ) → (taken_of len ≤ len) × (taken_of len ≤ 64)
+taken_within len = go (ltb len 64) refl
   where
     go : (b : Bool) → ltb len 64 ≡ b → (pick (ltb len 64) len 64 ≤ len) × (pick (ltb len 64) len 64 ≤ 64)
     go true l = rw l (omega arith, omega (arith, ltb-true len 64 l))
     go false l = rw l (ltb-false len 64 l, omega arith)
 
+pub lent_is : (lent : List Row) (n : ℕ) → n ≡ min (length lent) 64 → (front : List Row) → front ≡ take n lent
+    → front ++ drop n (replicate 64 absent_row) ≡ lent_rows lent
+lent_is lent n e front ef =
+    let w = taken_within (length lent) in
+    let m : n ≡ taken_of (length lent) = e ∙ least (length lent) (ltb (length lent) 64) refl in
+    rw (ef, m) (sym (copied_is (taken_of (length lent)) lent (replicate 64 absent_row) w.0 (omega (arith, w.1, length-replicate 64 absent_row))))
+  where
+    least : (len : ℕ) (b : Bool) → ltb len 64 ≡ b → min len 64 ≡ pick b len 64
+    least len true e = omega (arith, ltb-true len 64 e)
+    least len false e = omega (arith, ltb-false len 64 e)
+
 -- Each of the rows that a writing is handed is the lent one, and absent where none is lent.
 pub lent_written : LentWritten
 lent_written lent =
-    let n = (blank_of (length lent)).n in
+    let n = taken_of (length lent) in
     let blank = replicate 64 absent_row in
-    let w = blank_within (length lent) (blank_of (length lent)) refl in
+    let w = taken_within (length lent) in
     let is = copied_is n lent blank w.0 (omega (arith, w.1, length-replicate 64 absent_row)) in
     record {
       all_rows = ap length is ∙ front_length n lent blank w.0 (omega (arith, w.1, length-replicate 64 absent_row)) ∙ length-replicate 64 absent_row;
       each_row = λ i l. ap (λ (rows : List Row). get_or rows i absent_row) is ∙ each i l (ltb i n) refl;
     }
   where
-    each : (i : ℕ) → i < 64 → (b : Bool) → ltb i (blank_of (length lent)).n ≡ b
-        → get_or (take (blank_of (length lent)).n lent ++ drop (blank_of (length lent)).n (replicate 64 absent_row)) i absent_row ≡ get_or lent i absent_row
+    each : (i : ℕ) → i < 64 → (b : Bool) → ltb i (taken_of (length lent)) ≡ b
+        → get_or (take (taken_of (length lent)) lent ++ drop (taken_of (length lent)) (replicate 64 absent_row)) i absent_row ≡ get_or lent i absent_row
     each i l true e =
-        front_at (blank_of (length lent)).n lent (replicate 64 absent_row) (blank_within (length lent) (blank_of (length lent)) refl).0 i
-        (ltb-true i (blank_of (length lent)).n e)
+        front_at (taken_of (length lent)) lent (replicate 64 absent_row) (taken_within (length lent)).0 i
+        (ltb-true i (taken_of (length lent)) e)
     each i l false e =
-        beyond_at (blank_of (length lent)).n lent (replicate 64 absent_row) (blank_within (length lent) (blank_of (length lent)) refl).0 i
-        (ltb-false i (blank_of (length lent)).n e)
+        beyond_at (taken_of (length lent)) lent (replicate 64 absent_row) (taken_within (length lent)).0 i
+        (ltb-false i (taken_of (length lent)) e)
         ∙ get_or-replicate 64 i absent_row absent_row l
         ∙ sym (get_or-eq_default lent absent_row {n = i} (past (ltb (length lent) 64) refl))
       where
         past : (b : Bool) → ltb (length lent) 64 ≡ b → length lent ≤ i
-        past true f = omega (arith, rw f at (ltb-false i (blank_of (length lent)).n e))
-        past false f = absurd (omega (arith, rw f at (ltb-false i (blank_of (length lent)).n e)))
+        past true f = omega (arith, rw f at (ltb-false i (taken_of (length lent)) e))
+        past false f = absurd (omega (arith, rw f at (ltb-false i (taken_of (length lent)) e)))

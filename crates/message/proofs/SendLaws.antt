@@ -1,7 +1,9 @@
 -- A message's writing, from the payload's: its verdicts, its answer and its output; and the header's stores as one run of bytes.
 -- Assumes nothing.
 use mathlib.Core.Path.{◌≡◌, refl, sym, ap, ◌∙◌}
-use Prim.Native.Nat.{ℕ, ◌+◌, ◌-◌, ◌≤◌, ◌<◌}
+use Prim.Native.Nat.{ℕ, ◌+◌, ◌-◌, ◌≤◌, ◌<◌, min}
+use mathlib.Core.Logic.{◌⊎◌, inl, inr}
+use Rattle.std.proofs.Common.{Ok, Err}
 use native.Mathlib.Omega.{arith}
 use native.Mathlib.Nat.{zero-add}
 use mathlib.Core.Bool.{Bool, true, false}
@@ -12,22 +14,19 @@ use lib.Dec.{ltb}
 use borrow.Author.Tests.{lt-ltb, le-ltb, ltb-true, ltb-false}
 use Rattle.wire.specs.Choose.{pick}
 use Rattle.wire.specs.Number.{big, number_bytes}
-use Rattle.wire.specs.Verdict.{verdict_number}
 use Rattle.wire.specs.Header.{header_len}
 use Rattle.wire.specs.declared.verdict.Verdict.{Verdict}
-use Rattle.wire.specs.declared.verdict.Verdict.TheVariants.{Accepted, Table as NoTable, Room}
-use Rattle.wire.proofs.Promises.{verdicts_differ}
+use Rattle.wire.specs.declared.verdict.Verdict.TheVariants.{Table as NoTable, Room}
 use Rattle.payload.specs.declared.table.Table.{Table}
 use Rattle.payload.specs.declared.row.Row.{Row}
-use Rattle.payload.specs.declared.write.Written.{Written}
 use Rattle.payload.specs.Reading.{payload_most}
-use Rattle.payload.specs.Writing.{Outcome, refused, done, outcome_of, answer_is, output_is, writing_of, output_of}
+use Rattle.payload.specs.Writing.{Outcome, refused, done, outcome_of, output_is, result_is}
 use Rattle.payload.specs.Promises.{within}
-use Rattle.payload.proofs.Promises.{room_last, done_exactly, write_settled}
+use Rattle.payload.proofs.Promises.{room_last}
 use Rattle.message.specs.declared.header.Header.{Header}
 use Rattle.message.specs.MessageType.{is_one}
 use Rattle.message.specs.Header.{header_bytes}
-use Rattle.message.specs.Writing.{message_bytes, framed, sending_of, message_writing, message_output, body_at}
+use Rattle.message.specs.Writing.{message_bytes, framed, sending_of}
 
 -- ---- the header's nine stores
 
@@ -54,13 +53,6 @@ unfolding message_bytes
 message_size h p = length-append (header_bytes h (length p)) p ∙ rw (header_size h (length p))
 
 -- ---- the output, with the payload's part put back behind the header's place
-
-pub body_within : (n from : ℕ) → from ≡ body_at n → from ≤ n
-body_within n from e = go (ltb n header_len) refl
-  where
-    go : (b : Bool) → ltb n header_len ≡ b → from ≤ n
-    go true t = omega (arith, (let x : from ≡ n = e ∙ rw t in x))
-    go false t = omega (arith, (let x : from ≡ header_len = e ∙ rw t in x), ltb-false n header_len t)
 
 -- the part from a place on, as the code lends it
 whole_part : (from : ℕ) (old : List ℕ) → take (length old - from) (drop from old) ≡ drop from old
@@ -101,200 +93,120 @@ module _ (h : Header) (old p : List ℕ) (f : header_len + length p ≤ length o
       (sym (part_front old (header_bytes h (length p) ++ p) (omega (arith, length-append (header_bytes h (length p)) p, header_size h (length p)))
       ∙ rw (length-append (header_bytes h (length p)) p, header_size h (length p), append_assoc)))
 
--- ---- the answer, by what the payload's writing answers
+-- ---- what is sent, by what the payload's writing gives
 
-no_refusal : (v : Verdict) → (refused v ≡ refused Accepted → ⊥) → verdict_number v ≡ 0 → ⊥
-no_refusal v n z = n (ap refused (verdicts_differ v Accepted z))
+-- what a writing gives is a refusal, or a length
+pub err_outcome : (v : Verdict) (o : Outcome) → Err v ≡ result_is o → o ≡ refused v
+err_outcome v (refused u) e = let z : u ≡ v = cc in rw z
+err_outcome v (done p) e = absurd (cc)
 
--- an output that is shorter than a header
-pub record Short (h : Header) (old : List ℕ) (o : Outcome) (w : Written) : Type 0 where
-  pub no_room : verdict_number w.verdict ≡ 0 → answer_is (refused Room) ≡ answer_is (framed h (length old) o)
-  pub same_answer : (verdict_number w.verdict ≡ 0 → ⊥) → w ≡ answer_is (framed h (length old) o)
-  pub unchanged : old ≡ output_is old (framed h (length old) o)
+pub record Payload (o : Outcome) (n : ℕ) : Type 0 where
+  pub bytes : List ℕ
+  pub is : o ≡ done bytes
+  pub size : n ≡ length bytes
 
-short_by : (h : Header) (old : List ℕ) → length old < header_len
-    → (o : Outcome) → (o ≡ refused Accepted → ⊥) → Short h old o (answer_is (within 0 o))
-unfolding answer_is output_is framed
-short_by h old s (refused v) n = record { no_room = λ z. absurd (no_refusal v n z); same_answer = λ z. refl; unchanged = refl }
-short_by h old s (done p) n =
-    let e : ltb (length old) (header_len + length p) ≡ true = lt-ltb (length old) (header_len + length p) (omega arith) in
-    record {
-      no_room = λ z. rw e;
-      same_answer = λ z. rw e (go (ltb 0 (length p)) z);
-      unchanged = rw e;
-    }
+pub ok_outcome : (n : ℕ) (o : Outcome) → Ok n ≡ result_is o → Payload o n
+ok_outcome n (refused u) e = absurd (cc)
+ok_outcome n (done p) e = record { bytes = p; is = refl; size = cc }
+
+within_refused : (space : ℕ) (v : Verdict) (o : Outcome) → within space o ≡ refused v
+    → (o ≡ refused v) ⊎ ((p : List ℕ) × (o ≡ done p) × (v ≡ Room) × (space < length p))
+within_refused space v (refused u) e = inl e
+within_refused space v (done p) e = go (ltb space (length p)) refl e
   where
-    go : (b : Bool) → (verdict_number (answer_is (pick b (refused Room) (done p))).verdict ≡ 0 → ⊥)
-        → answer_is (pick b (refused Room) (done p)) ≡ answer_is (refused Room)
-    go true z = refl
-    go false z = absurd (z refl)
+    go : (b : Bool) → ltb space (length p) ≡ b → pick b (refused Room) (done p) ≡ refused v
+        → (done p ≡ refused v) ⊎ ((q : List ℕ) × (done p ≡ done q) × (v ≡ Room) × (space < length q))
+    go true eb e = let z : v ≡ Room = cc in inr (p, refl, z, ltb-true space (length p) eb)
+    go false eb e = inl e
 
--- an output with room for a header, whose part behind it the payload's writing leaves as `part`: what is sent where the payload was accepted
-pub record Carried (h : Header) (old : List ℕ) (o : Outcome) (w : Written) (part : List ℕ) : Type 0 where
-  pub payload : List ℕ
-  pub len_is : w.len ≡ length payload
-  pub fits : header_len + length payload ≤ length old
-  pub sent : framed h (length old) o ≡ done (message_bytes h payload)
-  pub part_is : part ≡ sets (drop header_len old) 0 payload
-
-pub record Long (h : Header) (old : List ℕ) (o : Outcome) (w : Written) (part : List ℕ) : Type 0 where
-  pub same_answer : (verdict_number w.verdict ≡ 0 → ⊥) → w ≡ answer_is (framed h (length old) o)
-  pub unchanged : (verdict_number w.verdict ≡ 0 → ⊥) → (part ≡ drop header_len old) × (old ≡ output_is old (framed h (length old) o))
-  pub carried : verdict_number w.verdict ≡ 0 → Carried h old o w part
-
-long_by : (h : Header) (old : List ℕ) → header_len ≤ length old → (o : Outcome) → (o ≡ refused Accepted → ⊥)
-    → Long h old o (answer_is (within (length old - header_len) o)) (output_is (drop header_len old) (within (length old - header_len) o))
-unfolding answer_is output_is framed
-long_by h old s (refused v) n =
-    record {
-      same_answer = λ z. refl;
-      unchanged = λ z. (refl, refl);
-      carried = λ z. absurd (no_refusal v n z);
-    }
-long_by h old s (done p) n = go (ltb (length old - header_len) (length p)) refl
+within_done : (space : ℕ) (p : List ℕ) (o : Outcome) → within space o ≡ done p → (o ≡ done p) × (length p ≤ space)
+within_done space p (refused u) e = absurd (cc)
+within_done space p (done q) e = go (ltb space (length q)) refl e
   where
-    go : (b : Bool) → ltb (length old - header_len) (length p) ≡ b
-        → Long h old (done p) (answer_is (pick b (refused Room) (done p))) (output_is (drop header_len old) (pick b (refused Room) (done p)))
-    go true e =
-        let k : ltb (length old) (header_len + length p) ≡ true =
-        lt-ltb (length old) (header_len + length p) (omega (arith, ltb-true (length old - header_len) (length p) e))
-        in
-        record {
-          same_answer = λ z. rw k;
-          unchanged = λ z. (refl, rw k);
-          carried = λ z. absurd (omega arith);
-        }
-    go false e =
-        let f : header_len + length p ≤ length old = omega (arith, ltb-false (length old - header_len) (length p) e) in
-        record {
-          same_answer = λ z. absurd (z refl);
-          unchanged = λ z. absurd (z refl);
-          carried = λ z. record {
-            payload = p;
-            len_is = refl;
-            fits = f;
-            sent = rw (le-ltb (length old) (header_len + length p) f);
-            part_is = refl;
-          };
-        }
-
--- ---- the contract, return by return
+    go : (b : Bool) → ltb space (length q) ≡ b → pick b (refused Room) (done q) ≡ done p → (done q ≡ done p) × (length p ≤ space)
+    go true eb e = absurd (cc)
+    go false eb e = let z : q ≡ p = cc in (e, rw z at (ltb-false space (length q) eb))
 
 no_bytes : (l : List ℕ) → length l ≡ 0 → l ≡ []
 no_bytes [] e = refl
 no_bytes (x ∷ xs) e = absurd (omega arith)
 
 module _ (h : Header) (rows : List Row) (room : ℕ) (t : Table) (buf old : List ℕ) where
-  -- 1
-  module _ (one : Bool) (ke : one ≡ is_one h.kind.0) (k : one ≡ false) where
-    pub kind_answer : (w : Written) → w ≡ answer_is (refused NoTable) → w ≡ message_writing h rows room t buf (length old)
-    unfolding message_writing sending_of
-    kind_answer w e = e ∙ rw (sym ke ∙ k)
+  abbrev sent : Outcome
+  sent = sending_of h rows room t buf (length old)
 
-    pub kind_output : old ≡ message_output h rows room t buf old
-    unfolding message_output sending_of output_is
-    kind_output = rw (sym ke ∙ k)
+  pub sent_kind : is_one h.kind.0 ≡ false → sent ≡ refused NoTable
+  unfolding sending_of
+  sent_kind k = rw k
 
-  module _ (one : Bool) (ke : one ≡ is_one h.kind.0) (k : one ≡ true) where
-    sending_is : sending_of h rows room t buf (length old) ≡ framed h (length old) (outcome_of rows room t buf payload_most)
+  module _ (k : is_one h.kind.0 ≡ true) (from : ℕ) (fe : from ≡ min (length old) header_len) where
+    -- the output's part that the payload's writing is handed, and what that gives
+    abbrev lent : List ℕ
+    lent = take (length old - from) (drop from old)
+
+    abbrev inner : Outcome
+    inner = outcome_of rows room t buf (length lent)
+
+    sending_is : sent ≡ framed h (length old) (outcome_of rows room t buf payload_most)
     unfolding sending_of
-    sending_is = rw (sym ke ∙ k)
+    sending_is = rw k
 
-    module _ (from : ℕ) (fe : from ≡ body_at (length old)) (w : Written) (part : List ℕ)
-        (we : w ≡ writing_of rows room t buf (length (take (length old - from) (drop from old))))
-        (pe : part ≡ output_of rows room t buf (take (length old - from) (drop from old))) where
-      -- the output as the payload's writing leaves it
-      abbrev left : List ℕ
-      left = take from old ++ (part ++ drop (length old - from) (drop from old))
+    lent_length : length lent ≡ length old - from
+    lent_length = rw (whole_part from old) (length-drop from old)
 
-      -- an output in which no header fits
+    inner_is : inner ≡ within (length old - from) (outcome_of rows room t buf payload_most)
+    inner_is = rw lent_length (room_last rows room t buf (length old - from))
+
+    pub sent_refused : (v : Verdict) → inner ≡ refused v → sent ≡ refused v
+    unfolding framed
+    sent_refused v e = sending_is ∙ go (within_refused (length old - from) v _ (sym inner_is ∙ e))
+      where
+        go : (outcome_of rows room t buf payload_most ≡ refused v)
+            ⊎ ((p : List ℕ) × (outcome_of rows room t buf payload_most ≡ done p) × (v ≡ Room) × (length old - from < length p))
+            → framed h (length old) (outcome_of rows room t buf payload_most) ≡ refused v
+        go (inl a) = rw a
+        go (inr (p, a, b, d)) = rw (a, b, lt-ltb (length old) (header_len + length p) (omega arith))
+
+    -- an output that a refusal leaves, put back together
+    pub left_refused : (part : List ℕ) (v : Verdict) → inner ≡ refused v → part ≡ output_is lent inner
+        → take from old ++ (part ++ drop (length old - from) (drop from old)) ≡ output_is old sent
+    unfolding output_is
+    left_refused part v e pe = rw (pe, e, sent_refused v e, whole_part from old) (part_back from old)
+
+    module _ (p : List ℕ) (e : inner ≡ done p) where
+      given : (outcome_of rows room t buf payload_most ≡ done p) × (length p ≤ length old - from)
+      given = within_done (length old - from) p _ (sym inner_is ∙ e)
+
+      pub sent_few : length p ≤ payload_most
+      sent_few = (within_done payload_most p (outcome_of rows room t buf payload_most) (sym (room_last rows room t buf payload_most) ∙ given.0)).1
+
       module _ (s : length old < header_len) where
-        at_end_lem : from ≡ length old
-        at_end_lem = fe ∙ rw (lt-ltb (length old) header_len s)
+        pub sent_short : sent ≡ refused Room
+        unfolding framed
+        sent_short = sending_is ∙ rw (given.0, lt-ltb (length old) (header_len + length p) (omega arith))
 
-        no_room : length (drop from old) ≡ 0
-        no_room = omega (arith, length-drop from old, at_end_lem)
+        pub left_short : (part : List ℕ) → part ≡ output_is lent inner
+            → take from old ++ (part ++ drop (length old - from) (drop from old)) ≡ output_is old sent
+        unfolding output_is
+        left_short part pe =
+            let d0 : drop from old ≡ [] = no_bytes (drop from old) (omega (arith, length-drop from old)) in
+            let p0 : p ≡ [] = no_bytes p (omega (arith, given.1)) in
+            rw (pe, e, p0, sent_short, whole_part from old, d0) (rw d0 at (part_back from old))
 
-        short : Short h old (outcome_of rows room t buf payload_most) w
-        unfolding writing_of
-        short =
-            rw (we, whole_part from old, no_room, room_last rows room t buf 0)
-            (short_by h old s (outcome_of rows room t buf payload_most) (done_exactly rows room t buf payload_most).refuses_truly)
-
-        pub short_room : verdict_number w.verdict ≡ 0 → (r : Written) → r ≡ answer_is (refused Room) → r ≡ message_writing h rows room t buf (length old)
-        unfolding message_writing
-        short_room z r e = e ∙ short.no_room z ∙ rw sending_is
-
-        short_answer : (verdict_number w.verdict ≡ 0 → ⊥) → w ≡ message_writing h rows room t buf (length old)
-        unfolding message_writing
-        short_answer z = short.same_answer z ∙ rw sending_is
-
-        pub short_output : left ≡ message_output h rows room t buf old
-        unfolding message_output
-        short_output =
-            let same = (write_settled rows room t buf (take (length old - from) (drop from old))).same_length in
-            let p0 : part ≡ [] = no_bytes part (ap length pe ∙ same ∙ ap length (whole_part from old) ∙ no_room) in
-            let d0 : drop from old ≡ [] = no_bytes (drop from old) no_room in
-            (ap (λ (q : List ℕ). take from old ++ (q ++ drop (length old - from) (drop from old))) (p0 ∙ sym d0))
-            ∙ part_back from old
-            ∙ short.unchanged
-            ∙ rw sending_is
-
-      -- an output in which one does
       module _ (s : header_len ≤ length old) where
-        pub behind_header : from ≡ header_len
-        behind_header = fe ∙ rw (le-ltb (length old) header_len s)
+        sent_room : header_len + length p ≤ length old
+        sent_room = omega (arith, given.1)
 
-        long : Long h old (outcome_of rows room t buf payload_most) w part
-        unfolding writing_of output_of
-        long =
-            rw (we, pe, whole_part from old, behind_header, length-drop header_len old, room_last rows room t buf (length old - header_len))
-            (long_by h old s (outcome_of rows room t buf payload_most) (done_exactly rows room t buf payload_most).refuses_truly)
+        sent_done : sent ≡ done (message_bytes h p)
+        unfolding framed
+        sent_done = sending_is ∙ rw (given.0, le-ltb (length old) (header_len + length p) sent_room)
 
-        long_answer : (verdict_number w.verdict ≡ 0 → ⊥) → w ≡ message_writing h rows room t buf (length old)
-        unfolding message_writing
-        long_answer z = long.same_answer z ∙ rw sending_is
+        pub done_result : (n : ℕ) → n ≡ length p → Ok (header_len + n) ≡ result_is sent
+        done_result n en = rw (en, sent_done, message_size h p)
 
-        long_output : (verdict_number w.verdict ≡ 0 → ⊥) → left ≡ message_output h rows room t buf old
-        unfolding message_output
-        long_output z = rw ((long.unchanged z).0, behind_header) (part_back header_len old ∙ (long.unchanged z).1 ∙ rw sending_is)
-
-        module _ (z : verdict_number w.verdict ≡ 0) where
-          -- few enough that their number fits
-          pub body_few : (w.len ≤ payload_most) × (header_len + w.len ≤ length old)
-          body_few =
-              let c = long.carried z in
-              (rw we (write_settled rows room t buf (take (length old - from) (drop from old))).most, omega (arith, c.len_is, c.fits))
-
-          pub done_answer : record { verdict = Accepted; len = header_len + w.len } ≡ message_writing h rows room t buf (length old)
-          unfolding message_writing answer_is
-          done_answer =
-              let c = long.carried z in
-              ap (λ (n : ℕ). record { verdict = Accepted; len = header_len + n }) c.len_is
-              ∙ rw (sending_is, c.sent, message_size h c.payload)
-
-          pub done_output : (after : List ℕ) → after ≡ sets left 0 (header_bytes h w.len) → after ≡ message_output h rows room t buf old
-          unfolding message_output output_is behind
-          done_output after e =
-              let c = long.carried z in
-              let back : List ℕ → List ℕ = λ q. take header_len old ++ (q ++ drop (length old - header_len) (drop header_len old)) in
-              e
-              ∙ ap (λ (m : ℕ). sets (take m old ++ (part ++ drop (length old - m) (drop m old))) 0 (header_bytes h w.len)) behind_header
-              ∙ ap (λ (n : ℕ). sets (back part) 0 (header_bytes h n)) c.len_is
-              ∙ ap (λ (q : List ℕ). sets (back q) 0 (header_bytes h (length c.payload))) c.part_is
-              ∙ framed_output h old c.payload c.fits
-              ∙ rw (sending_is, c.sent)
-
-      pub body_answer : (verdict_number w.verdict ≡ 0 → ⊥) → w ≡ message_writing h rows room t buf (length old)
-      body_answer z = go (ltb (length old) header_len) refl
-        where
-          go : (b : Bool) → ltb (length old) header_len ≡ b → w ≡ message_writing h rows room t buf (length old)
-          go true e = short_answer (ltb-true (length old) header_len e) z
-          go false e = long_answer (ltb-false (length old) header_len e) z
-
-      pub body_output : (verdict_number w.verdict ≡ 0 → ⊥) → left ≡ message_output h rows room t buf old
-      body_output z = go (ltb (length old) header_len) refl
-        where
-          go : (b : Bool) → ltb (length old) header_len ≡ b → left ≡ message_output h rows room t buf old
-          go true e = short_output (ltb-true (length old) header_len e)
-          go false e = long_output (ltb-false (length old) header_len e) z
+        pub left_done : (part : List ℕ) → part ≡ output_is lent inner → (n : ℕ) → n ≡ length p → (after : List ℕ)
+            → after ≡ sets (take from old ++ (part ++ drop (length old - from) (drop from old))) 0 (header_bytes h n) → after ≡ output_is old sent
+        unfolding output_is behind
+        left_done part pe n en after ea =
+            let f : from ≡ header_len = omega arith in
+            rw (ea, pe, e, sent_done, whole_part from old, f, en) (framed_output h old p sent_room)

@@ -1,34 +1,37 @@
--- What the reader's own state stands for before the payload is read.
-use Rattle.std.specs.Prelude.{ℕ, ◌-◌, ◌≤◌, ◌<◌, ◌≡◌, List, length, take, drop, eqb}
+-- What the reader answers on its way: where a message ends, and what a message answers whose end is known.
+use Rattle.std.specs.Prelude.{ℕ, List, length, eqb, ltb, Result, Ok, Err}
+use Rattle.std.proofs.Math.Seq.{slice}
 use Rattle.wire.specs.Choose.{pick}
-use Rattle.wire.specs.Header.{header_len}
+use Rattle.wire.specs.Verdict.{verdict_number}
+use Rattle.wire.specs.Header.{header_len, length_of, end_of}
 use Rattle.wire.specs.declared.verdict.Verdict.{Verdict}
-use Rattle.payload.specs.declared.table.Table.{Table}
+use Rattle.wire.specs.declared.verdict.Verdict.TheVariants.{Short, Length}
+use Rattle.payload.specs.declared.table.CheckedTable.{CheckedTable}
 use Rattle.payload.specs.declared.read.Reading.{Reading}
 use Rattle.payload.specs.Cells.{table_in}
-use Rattle.payload.specs.Walking.{after_of, Admits}
+use Rattle.payload.specs.Reading.{cleared, checked_of}
 use Rattle.message.specs.declared.read.Expected.{Expected}
-use Rattle.message.specs.declared.read.Head.{Head}
-use Rattle.message.specs.declared.read.Opening.{Opening}
-use Rattle.message.specs.Reading.{head_at, no_head, message_of}
+use Rattle.message.specs.declared.read.MessageReading.{MessageReading}
+use Rattle.message.specs.Reading.{head_at, length_fails, header_verdict}
 
--- A message that ends at 0 is one whose header wasn't looked at.
-abbrev pub head_of : List ℕ → ℕ → Verdict → Head
-head_of d end v = pick (eqb end 0) no_head (head_at d end v)
+-- 10 and 11, or where the message ends
+abbrev pub end_in : List ℕ → Result ℕ Verdict
+end_in d =
+    pick (ltb (length d) header_len) (Err Short)
+    (pick (length_fails (length_of d) (length d)) (Err Length)
+    (Ok (end_of d)))
 
-abbrev pub Ends : List ℕ → ℕ → Type 0
-Ends d end = 0 < end → (header_len ≤ end) × (end ≤ length d)
+-- the header's verdict: it is as expected, or why not
+abbrev pub header_is : Verdict → Result (Unit {0}) Verdict
+header_is v = pick (eqb (verdict_number v) 0) (Ok tt) (Err v)
 
-abbrev pub shut_of : Verdict → ℕ → Opening
-shut_of why filled = record { why = why; filled = filled; from = 0; end = 0 }
+-- 12 to 16, or what the payload of a message answers that ends at a place
+abbrev pub payload_read : List ℕ → Expected → CheckedTable → ℕ → Reading
+payload_read d e c end =
+    pick (eqb (verdict_number (header_verdict d e)) 0)
+    (checked_of (slice header_len end d) (table_in c.count c.cells) c.count c.width)
+    (cleared c.count (header_verdict d e) 0)
 
--- The verdicts before the payload's were looked for: what the payload's reader then answers is the message's reading.
-pub record Opened (d : List ℕ) (e : Expected) (t : Table) (room : ℕ) (cells : List ℕ) (o : Opening) : Type 0 where
-  pub reads : (reading : Reading)
-      → reading ≡ after_of o.why (take (o.end - o.from) (drop o.from d)) (table_in o.filled cells) o.filled t.width
-      → (head : Head) → head ≡ head_of d o.end reading.verdict
-      → record { head = head; reading = reading } ≡ message_of d e t room
-  pub admits : Admits o.why o.filled t.width cells
-  pub ends : Ends d o.end
-  pub onward : o.from ≤ o.end
-  pub inside : o.end ≤ length d
+-- the same with what the header hands on
+abbrev pub headed_in : List ℕ → Expected → CheckedTable → ℕ → MessageReading
+headed_in d e c end = record { head = head_at d end (payload_read d e c end).verdict; reading = payload_read d e c end }

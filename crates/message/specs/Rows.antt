@@ -5,7 +5,6 @@ use Rattle.payload.specs.declared.row.Row.{Row}
 use Rattle.payload.specs.Row.{absent_row}
 use Rattle.message.specs.declared.read.MessageReading.{MessageReading}
 use Rattle.message.specs.declared.rows.Answered.{Answered}
-use Rattle.message.specs.declared.rows.Blank.{Blank}
 
 abbrev pub answered_of : MessageReading → Answered
 answered_of m = record { head = m.head; verdict = m.reading.verdict; place = m.reading.place; skipped = m.reading.skipped }
@@ -21,10 +20,10 @@ copied (suc n) rows old = set (copied n rows old) n (get_or rows n absent_row)
 
 -- ---- rows that are lent to a writing
 
--- no rows yet, and how many lent ones are taken: as many as there are, and 64 at most
-abbrev pub blank_of : ℕ → Blank
-blank_of len = record { rows = replicate 64 absent_row; n = pick (ltb len 64) len 64 }
+-- how many lent ones are taken: as many as there are, and 64 at most
+abbrev pub taken_of : ℕ → ℕ
+taken_of len = pick (ltb len 64) len 64
 
 -- the first 64 lent rows; where fewer are lent, absent rows follow
 abbrev pub lent_rows : List Row → List Row
-lent_rows lent = copied (blank_of (length lent)).n lent (replicate 64 absent_row)
+lent_rows lent = copied (taken_of (length lent)) lent (replicate 64 absent_row)

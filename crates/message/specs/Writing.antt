@@ -33,9 +33,3 @@ message_writing h rows room t buf space = answer_is (sending_of h rows room t bu
 -- A refused write changes no output byte; an accepted one changes the message's bytes only, from the output's start.
 unfoldable pub message_output : Header → List Row → ℕ → Table → List ℕ → List ℕ → List ℕ
 message_output h rows room t buf old = output_is old (sending_of h rows room t buf (length old))
-
--- ---- the writer's own state
-
--- where the payload begins in an output of so many bytes: behind the header, or, where none fits, at the end
-abbrev pub body_at : ℕ → ℕ
-body_at len = pick (ltb len header_len) len header_len

@@ -4,7 +4,7 @@ ghost use Rattle.std.specs.Prelude.{◌≡◌};
 ghost use Rattle.message.specs.MessageType.{is_one};
 
 // A number in a header's place of the Message Type.
-#[derive(Clone, Copy)]
+#[derive(Clone, Copy, PartialEq, Eq, Debug)]
 pub struct MessageType(pub u8);
 
 impl MessageType {
@@ -19,22 +19,17 @@ impl MessageType {
     pub const ERROR: MessageType = MessageType(0x81);
 
     // Whether the number is one of the five.
+    #[tactic(auto, unfolding(crate::specs::MessageType::is_one))]
     pub fn is_one(self) -> bool
         ensures { result ≡ is_one self.0 }
     {
-        let x = self.0;
-        if x == MessageType::REQUEST.0 {
-            return true;
-        }
-        if x == MessageType::REQUEST_NO_RETURN.0 {
-            return true;
-        }
-        if x == MessageType::NOTIFICATION.0 {
-            return true;
-        }
-        if x == MessageType::RESPONSE.0 {
-            return true;
-        }
-        x == MessageType::ERROR.0
+        matches!(
+            self,
+            MessageType::REQUEST
+                | MessageType::REQUEST_NO_RETURN
+                | MessageType::NOTIFICATION
+                | MessageType::RESPONSE
+                | MessageType::ERROR
+        )
     }
 }

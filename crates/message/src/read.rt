@@ -1,13 +1,14 @@
 // Reading a message: the table and the room, the header, then the payload.
 
-ghost use Rattle.std.specs.Prelude.{◌≡◌, ◌≤◌, length};
-ghost use Rattle.message.specs.Reading.{length_fails, header_verdict, payload_shown, head_at, message_of};
-ghost use Rattle.message.specs.Opening.{head_of, shut_of, Ends, Opened};
+ghost use Rattle.std.specs.Prelude.{◌≡◌, ◌≤◌, length, IfOk};
+ghost use Rattle.payload.specs.Reading.{cleared};
+ghost use Rattle.message.specs.Reading.{unheaded, length_fails, header_verdict, payload_shown, head_at, message_of};
+ghost use Rattle.message.specs.Opening.{header_is, end_in, headed_in};
 
 use super::message_type::MessageType;
+use payload::read;
 use payload::read::Reading;
-use payload::table::Table;
-use payload::{read, table};
+use payload::table::{CheckedTable, Table};
 use wire::id::{ClientId, MethodId, ServiceId, SessionId};
 use wire::part::Part;
 use wire::verdict::Verdict;
@@ -39,68 +40,54 @@ pub struct MessageReading {
     pub reading: Reading,
 }
 
-// What is known of a message before its payload is read: why it is refused, or Accepted; how many lent rows are set; and where its payload
-// begins and ends, both 0 where the header wasn't looked at.
-#[derive(Clone, Copy)]
-pub struct Opening {
-    pub why: Verdict,
-    pub filled: usize,
-    pub from: usize,
-    pub end: usize,
-}
-
 // Whether a Length is below 8, or the message past the datagram's end; what is left of the datagram is compared, so that no sum can wrap.
 fn length_fails(length: u64, size: usize) -> bool
     requires { 16 ≤ size }
     ensures { result ≡ length_fails length size }
 {
-    if length < 8 {
-        return true;
-    }
-    ((size - 8) as u64) < length
+    length < 8 || ((size - 8) as u64) < length
 }
 
-// What a header answers to the caller's expectation, in the verdicts' order.
-fn header_verdict(d: &[u8], e: Expected) -> Verdict
+// Whether a header is what the caller expects, in the verdicts' order.
+fn check_header(d: &[u8], e: Expected) -> Result<(), Verdict>
     requires { 16 ≤ length d.now }
-    ensures { result ≡ header_verdict d.now e }
+    ensures { result ≡ header_is (header_verdict d.now e) }
 {
     if d[header::VERSION_AT] != header::VERSION {
-        return Verdict::Protocol;
+        return Err(Verdict::Protocol);
     }
     if header::two_at(d, header::SERVICE_AT) != e.service.0 {
-        return Verdict::Service;
+        return Err(Verdict::Service);
     }
     if d[header::INTERFACE_AT] != e.interface {
-        return Verdict::Interface;
+        return Err(Verdict::Interface);
     }
     if header::two_at(d, header::METHOD_AT) != e.method.0 {
-        return Verdict::Method;
+        return Err(Verdict::Method);
     }
     if d[header::TYPE_AT] != e.kind.0 {
-        return Verdict::MessageType;
+        return Err(Verdict::MessageType);
     }
-    Verdict::Accepted
+    Ok(())
 }
 
-// The payload's part of a message that ends at `end`: none is given after 12 to 17.
+// The payload's part of a message that ends at `end`: none is given where the header is refused, or the payload for its size.
+#[tactic(auto, unfolding(crate::specs::Reading::payload_shown))]
 fn payload_shown(why: Verdict, end: usize) -> Part
     requires { 16 ≤ end }
     ensures { result ≡ payload_shown why end }
 {
-    let n = why.number();
-    if n < 12 {
-        return Part {
+    match why {
+        Verdict::Protocol
+        | Verdict::Service
+        | Verdict::Interface
+        | Verdict::Method
+        | Verdict::MessageType
+        | Verdict::Large => Part { at: 0, len: 0 },
+        _ => Part {
             at: header::LEN,
             len: end - header::LEN,
-        };
-    }
-    if n < 18 {
-        return Part { at: 0, len: 0 };
-    }
-    Part {
-        at: header::LEN,
-        len: end - header::LEN,
+        },
     }
 }
 
@@ -121,81 +108,72 @@ fn head_at(d: &[u8], end: usize, why: Verdict) -> Head
     }
 }
 
-// What the header hands on of a message that ends at `end`; nothing where the header wasn't looked at, and `end` is 0.
-fn head_of(d: &[u8], end: usize, why: Verdict) -> Head
-    requires { Ends d.now end }
-    ensures { result ≡ head_of d.now end why }
+// The answer to a message whose header isn't looked at.
+fn unheaded(why: Verdict, filled: usize) -> MessageReading
+    ensures { result ≡ unheaded (cleared filled why 0) }
 {
-    if end == 0 {
-        return Head {
+    MessageReading {
+        head: Head {
             client: ClientId(0),
             session: SessionId(0),
             found_code: 0,
             payload: Part { at: 0, len: 0 },
             rest: Part { at: 0, len: 0 },
-        };
-    }
-    head_at(d, end, why)
-}
-
-// A refusal before the header is looked at.
-fn shut(why: Verdict, filled: usize) -> Opening
-    ensures { result ≡ shut_of why filled }
-{
-    Opening {
-        why: why,
-        filled: filled,
-        from: 0,
-        end: 0,
+        },
+        reading: Reading::refused(why, 0, filled),
     }
 }
 
-// 1, 2, 10, 11, then the header's. The cells are the table's where it keeps its rules.
-fn opened(d: &[u8], e: Expected, t: Table, room: usize, cells: &mut [u64; 64]) -> Opening
-    requires { length cells.old ≡ 64 }
-    ensures { Opened d.now e t room cells.new result }
+// Where the message at a datagram's start ends, as its Length says.
+fn message_end(d: &[u8]) -> Result<usize, Verdict>
+    ensures is { result ≡ end_in d.now }
+    ensures inside { IfOk result (λ end. (16 ≤ end) × (end ≤ length d.now)) }
 {
-    if !e.kind.is_one() {
-        return shut(Verdict::Table, 0);
-    }
-    if !table::checked(t, cells) {
-        return shut(Verdict::Table, 0);
-    }
-    let n = t.count;
-    if room < n {
-        return shut(Verdict::Room, 0);
-    }
     if d.len() < header::LEN {
-        return shut(Verdict::Short, n);
+        return Err(Verdict::Short);
     }
     let length = number::read_number(d, header::LENGTH_AT, 4);
     if length_fails(length, d.len()) {
-        return shut(Verdict::Length, n);
+        return Err(Verdict::Length);
     }
-    let end = length as usize + 8;
-    let why = header_verdict(d, e);
-    Opening {
-        why: why,
-        filled: n,
-        from: header::LEN,
-        end: end,
+    Ok(length as usize + 8)
+}
+
+// The answer to a message that ends at `end`, under a checked table: the header's verdict, then the payload's.
+fn headed(d: &[u8], e: Expected, table: &CheckedTable, end: usize) -> MessageReading
+    requires { (16 ≤ end) × (end ≤ length d.now) }
+    ensures { result ≡ headed_in d.now e table.now end }
+{
+    if let Err(why) = check_header(d, e) {
+        return MessageReading {
+            head: head_at(d, end, why),
+            reading: Reading::refused(why, 0, table.count),
+        };
+    }
+    let reading = read::read_checked(&d[header::LEN..end], table);
+    MessageReading {
+        head: head_at(d, end, reading.verdict),
+        reading,
     }
 }
 
 // Reads the message at a datagram's start, where `room` value rows are lent. Any datagram, expectation, table and number of rows gets one
-// answer, by value. Every refusal goes through the payload's one reading: rows of two sources would be moved one by one.
+// answer, by value.
 pub fn read_by_value(d: &[u8], e: Expected, t: Table, room: usize) -> MessageReading
     ensures { result ≡ message_of d.now e t room }
 {
-    let mut cells = [0u64; 64];
-    let o = opened(d, e, t, room, &mut cells);
-    let why = o.why;
-    let from = o.from;
-    let end = o.end;
-    let reading = read::read_after(why, &d[from..end], &cells, o.filled, t.width);
-    let given = reading.verdict;
-    MessageReading {
-        head: head_of(d, end, given),
-        reading: reading,
+    if !e.kind.is_one() {
+        return unheaded(Verdict::Table, 0);
+    }
+    let checked = CheckedTable::of(&t);
+    let Some(table) = &checked else {
+        return unheaded(Verdict::Table, 0);
+    };
+    if room < table.count {
+        return unheaded(Verdict::Room, 0);
+    }
+    match message_end(d) {
+        Err(why) => unheaded(why, table.count),
+        Ok(end) => headed(d, e, table, end),
     }
 }

@@ -2,8 +2,8 @@
 pub mod ValueLaws
 pub mod Flat
 pub mod Nesting
-pub mod PackLaws
 pub mod JudgeLaws
+pub mod FineLaws
 pub mod SizeLaws
 pub mod MeasureLaws
 pub mod StoreLaws

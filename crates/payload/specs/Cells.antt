@@ -1,13 +1,11 @@
 -- A type row as one number, a cell, as the code holds it: Data ID, level, kind, element kind, required. The definitions speak of the rows
 -- that cells stand for.
-use Rattle.std.specs.Prelude.{ℕ, zero, suc, ◌+◌, ◌*◌, ◌/◌, ◌%◌, ◌≤◌, ◌<◌, ◌≡◌, Bool, true, false, List, [], ◌∷◌, length, drop, get_or, eqb}
-use Rattle.std.proofs.Math.Option.{Option, none, some}
+use Rattle.std.specs.Prelude.{ℕ, zero, suc, ◌+◌, ◌*◌, ◌/◌, ◌%◌, ◌≤◌, ◌<◌, ◌≡◌, Bool, true, false, List, [], ◌∷◌, length, drop, get_or, eqb, Option, Some, None}
+use Rattle.std.proofs.Math.Option.{Option as Place, none, some}
 use Rattle.wire.specs.Kind.{array}
 use Rattle.payload.specs.declared.table.TypeRow.{TypeRow}
 use Rattle.payload.specs.declared.table.Table.{Table}
-use Rattle.payload.specs.declared.table.Found.{Found}
-use Rattle.payload.specs.declared.table.Found.TheVariants.{At, Nothing}
-use Rattle.payload.specs.Table.{find, type_rows, table_fits}
+use Rattle.payload.specs.Table.{find, type_rows, width_fits, table_fits}
 
 abbrev pub bit_of : Bool → ℕ
 bit_of true = 1
@@ -58,25 +56,29 @@ pub record FineTable (n : ℕ) (cells : List ℕ) : Type 0 where
   pub few : n ≤ 64
   pub each : (i : ℕ) → i < n → FineRow (row_in (get_or cells i 0))
 
+-- what every checked table keeps: fine rows, of which the first has level 1, and a width of 1, 2 or 4
+pub record SoundTable (cells : List ℕ) (n width : ℕ) : Type 0 where
+  pub fine : FineTable n cells
+  pub some : 0 < n
+  pub first : level_in (get_or cells 0 0) ≡ 1
+  pub width_in : width ≤ 4
+  pub width_is : width_fits width ≡ true
+
 -- ---- a search
 
 -- the row that is found, counted from the table's first row
-abbrev pub found_at : ℕ → Option ℕ → Found
-found_at first none = Nothing
-found_at first (some k) = At (first + k)
+abbrev pub found_at : ℕ → Place ℕ → Option ℕ
+found_at first none = None
+found_at first (some k) = Some (first + k)
 
 -- the search for the row of a Data ID at a level, from row i on, among the first n
-abbrev pub search_at : ℕ → List ℕ → ℕ → ℕ → ℕ → Found
+abbrev pub search_at : ℕ → List ℕ → ℕ → ℕ → ℕ → Option ℕ
 search_at n cells l x i = found_at i (find l x (drop i (table_in n cells)))
 
-abbrev pub missed : Found → Bool
-missed (At i) = false
-missed Nothing = true
-
 -- what is found is a row of the table, at the level
-abbrev pub Within : List ℕ → ℕ → ℕ → ℕ → Found → Type 0
-Within cells first count l (At i) = (first ≤ i) × (i < count) × (level_in (get_or cells i 0) ≡ l)
-Within cells first count l Nothing = Unit {0}
+abbrev pub Within : List ℕ → ℕ → ℕ → ℕ → Option ℕ → Type 0
+Within cells first count l (Some i) = (first ≤ i) × (i < count) × (level_in (get_or cells i 0) ≡ l)
+Within cells first count l None = Unit {0}
 
 -- From `first` to `stop` no row is above the level; there the table ends, or a row above the level stands.
 pub record Stops (cells : List ℕ) (first stop count l : ℕ) : Type 0 where
@@ -84,13 +86,6 @@ pub record Stops (cells : List ℕ) (first stop count l : ℕ) : Type 0 where
   pub to : stop ≤ count
   pub deep : (i : ℕ) → first ≤ i → i < stop → l ≤ level_in (get_or cells i 0)
   pub shut : stop < count → level_in (get_or cells stop 0) < l
-
--- Of the four rows at `at` the first r do not have a key, and row r has it, if r is below 4.
-pub record KeyFour (cells : List ℕ) (at key r : ℕ) : Type 0 where
-  pub few : r ≤ 4
-  pub hit : r < 4 → get_or cells (at + r) 0 / 512 ≡ key
-  pub same : (n l x : ℕ) → l < 16 → key ≡ x * 16 + l → at + 4 ≤ n → ((i : ℕ) → at ≤ i → i < at + 4 → l ≤ level_in (get_or cells i 0))
-      → search_at n cells l x at ≡ search_at n cells l x (at + r)
 
 -- ---- the check
 

@@ -1,16 +1,16 @@
 -- What the writer asks of each value row: verdicts 31 and 30 (document 01, Value rows and Verdicts).
-use Rattle.std.specs.Prelude.{ℕ, suc, ◌+◌, ◌%◌, ◌^◌, Bool, true, false, not, List, [], ◌∷◌, length, ℤ, pos, negsuc, leb, ltb, eqb}
+use Rattle.std.specs.Prelude.{ℕ, suc, ◌+◌, ◌-◌, ◌%◌, ◌^◌, Bool, true, false, not, List, [], ◌∷◌, length, ℤ, pos, negsuc, leb, ltb, eqb, Result, Ok, Err}
 use Rattle.wire.specs.Choose.{pick, and}
 use Rattle.wire.specs.Number.{half}
 use Rattle.wire.specs.Kind.{size_of, string, array, struct}
 use Rattle.wire.specs.Text.{text_fits}
 use Rattle.wire.specs.Part.{run_of}
+use Rattle.wire.specs.declared.verdict.Verdict.{Verdict}
+use Rattle.wire.specs.declared.verdict.Verdict.TheVariants.{Value as NoValue, Outside as Past}
 use Rattle.payload.specs.declared.table.TypeRow.{TypeRow}
 use Rattle.payload.specs.declared.row.Row.{Row}
 use Rattle.payload.specs.declared.row.Value.{Value}
 use Rattle.payload.specs.declared.row.Value.TheVariants.{Absent, Unsigned, Signed, Float32, Float64, Bytes, Members}
-use Rattle.payload.specs.declared.judge.Judged.{Judged}
-use Rattle.payload.specs.declared.judge.Judged.TheVariants.{Fine, Outside, Unfit}
 use Rattle.payload.specs.Table.{in_range}
 use Rattle.payload.specs.Row.{is_absent}
 
@@ -83,7 +83,17 @@ is_members Members = true
 unfoldable pub up_after : ℕ → TypeRow → Row → ℕ
 up_after upto r v = pick (ltb upto r.level) upto (pick (is_members v.value) (suc r.level) r.level)
 
+-- n, of the two's complement in eight bytes of n or of -1 - n
+abbrev pub flip_of : ℕ → ℕ
+flip_of num = pick (ltb num 9223372036854775808) num (18446744073709551615 - num)
+
 -- ---- row by row, 31 before 30: the first row that is not fine decides
+
+-- All are fine, a run lies outside the content buffer, or a value does not fit.
+pub data Judged : Type 0 where
+  Fine : Judged
+  Outside : Judged
+  Unfit : Judged
 
 unfoldable pub judged_from : List ℕ → ℕ → List TypeRow → List Row → Judged
 judged_from buf upto [] vs = Fine
@@ -96,3 +106,14 @@ judged_from buf upto (r ∷ rs) (v ∷ vs) =
 -- Level 1 is present.
 unfoldable pub judged_of : List ℕ → List TypeRow → List Row → Judged
 judged_of buf types rows = judged_from buf 1 types rows
+
+abbrev pub is_fine : Judged → Bool
+is_fine Fine = true
+is_fine Outside = false
+is_fine Unfit = false
+
+-- what the judging answers
+abbrev pub judging_is : Judged → Result (Unit {0}) Verdict
+judging_is Fine = Ok tt
+judging_is Outside = Err Past
+judging_is Unfit = Err NoValue

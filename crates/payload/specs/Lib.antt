@@ -13,8 +13,8 @@ pub mod Writing
 pub mod Settled
 pub mod WriteWhen
 pub mod Parts
-pub mod Columns
 pub mod Sizes
+pub mod Fine
 pub mod Cases
 pub mod Demand2
 pub mod Paths

@@ -3,7 +3,7 @@ use Rattle.std.specs.Prelude.{ℕ, ◌≤◌, ◌≡◌, true, false, List, ◌+
 use Rattle.wire.specs.declared.verdict.Verdict.TheVariants.{Accepted}
 use Rattle.payload.specs.declared.table.Table.{Table}
 use Rattle.payload.specs.declared.row.Row.{Row}
-use Rattle.payload.specs.declared.judge.Judged.TheVariants.{Fine}
+use Rattle.payload.specs.Judging.{Fine}
 use Rattle.payload.specs.Table.{type_rows, table_fits}
 use Rattle.payload.specs.Reading.{payload_most}
 use Rattle.payload.specs.Tree.{bytes_of}

@@ -1,5 +1,5 @@
 -- Writing a payload (document 01, Value rows and Verdicts): the tree of present rows, and the writer's answer and output.
-use Rattle.std.specs.Prelude.{ℕ, suc, ◌^◌, Bool, false, true, List, [], ◌∷◌, length, leb, ltb, eqb}
+use Rattle.std.specs.Prelude.{ℕ, suc, ◌^◌, Bool, false, true, List, [], ◌∷◌, length, leb, ltb, eqb, Result, Ok, Err}
 use Rattle.std.proofs.lemmas.List.Edits.{sets}
 use Rattle.wire.specs.Choose.{pick, and, or}
 use Rattle.wire.specs.Number.{big, number_bytes, twos_of}
@@ -14,13 +14,11 @@ use Rattle.payload.specs.declared.table.Table.{Table}
 use Rattle.payload.specs.declared.row.Row.{Row}
 use Rattle.payload.specs.declared.row.Value.{Value}
 use Rattle.payload.specs.declared.row.Value.TheVariants.{Absent, Unsigned, Signed, Float32, Float64, Bytes, Members as Branch}
-use Rattle.payload.specs.declared.judge.Judged.{Judged}
-use Rattle.payload.specs.declared.judge.Judged.TheVariants.{Fine, Outside, Unfit}
 use Rattle.payload.specs.declared.write.Written.{Written}
 use Rattle.payload.specs.Table.{type_rows, table_fits}
 use Rattle.payload.specs.Tree.{Members, stop, mem, bytes_of}
 use Rattle.payload.specs.Reading.{payload_most}
-use Rattle.payload.specs.Judging.{judged_of}
+use Rattle.payload.specs.Judging.{Judged, Fine, Outside, Unfit, judged_of}
 
 -- ---- a row's member
 
@@ -122,10 +120,19 @@ outcome_of rows room t buf space =
     (sized_of t.width (tree_of t buf rows) space)))
     (refused NoTable)
 
+-- what a writing gives: the payload's length, or why it is refused
+abbrev pub result_is : Outcome → Result ℕ Verdict
+result_is (refused v) = Err v
+result_is (done bytes) = Ok (length bytes)
+
+-- the answer of a result
+abbrev pub written_is : Result ℕ Verdict → Written
+written_is (Ok n) = record { verdict = Accepted; len = n }
+written_is (Err v) = record { verdict = v; len = 0 }
+
 -- A write answers its verdict and the payload's length, 0 on refusal.
 unfoldable pub answer_is : Outcome → Written
-answer_is (refused v) = record { verdict = v; len = 0 }
-answer_is (done bytes) = record { verdict = Accepted; len = length bytes }
+answer_is o = written_is (result_is o)
 
 -- A refused write changes no output byte; an accepted one changes the payload's bytes only, from the output's start.
 unfoldable pub output_is : List ℕ → Outcome → List ℕ

@@ -1,29 +1,43 @@
 // The output: each present row's member at its place, in table order.
 
-ghost use Rattle.std.specs.Prelude.{◌≡◌, ◌+◌, ◌-◌, ◌≤◌, ◌<◌, length};
+ghost use Rattle.std.specs.Prelude.{◌≡◌, ◌+◌, ◌++◌, ◌≤◌, ◌<◌, length};
 ghost use Rattle.std.proofs.lemmas.List.Edits.{sets};
-ghost use Rattle.wire.specs.Kind.{string, struct};
+ghost use Rattle.wire.specs.Kind.{size_of, string};
 ghost use Rattle.wire.specs.Text.{string_bytes};
 ghost use Rattle.wire.specs.Part.{run_of};
 ghost use Rattle.payload.specs.Cells.{kind_in, row_in, FineRow};
-ghost use Rattle.payload.specs.Writing.{tag_for};
-ghost use Rattle.payload.specs.Parts.{piece};
-ghost use Rattle.payload.specs.Columns.{content_in, put_in, Kept};
-ghost use Rattle.payload.specs.Sizes.{own_len, Wires, Columns, bytes_in, Wholes};
+ghost use Rattle.payload.specs.Sizes.{content_len, own_len};
+ghost use Rattle.payload.specs.Fine.{cell_at, value_at, number_member, field_start, content_of, bytes_at, piece_at, Holds};
 
+use super::fine::FineRows;
+use super::row::Value;
 use super::table;
 use wire::{kind, number, part, tag};
 
-// The tag of a row; `ws` is the wire type of what has a length field.
-fn tag_for(cell: u64, ws: u64) -> u64
-    requires { FineRow (row_in cell) × (ws < 8) }
-    ensures { result ≡ tag_for ws (row_in cell) }
+// A number's member at `at`: tag and number. The answer is the next place.
+fn put_number(out: &mut [u8], at: usize, cell: u64, num: u64) -> usize
+    requires { FineRow (row_in cell) × (kind_in cell < string) × (at + (2 + size_of (kind_in cell)) ≤ length out.old) }
+    ensures next { result ≡ at + (2 + size_of (kind_in cell)) }
+    ensures output { out.new ≡ sets out.old at (number_member cell num) }
 {
-    let k = table::kind_in(cell);
-    if k < kind::STRING {
-        return tag::tag_of(kind::kind_at(k).wire as u64, table::ident_in(cell));
-    }
-    tag::tag_of(ws, table::ident_in(cell))
+    let kind = table::kind_in(cell);
+    let size = kind::size_of(kind);
+    let wire = kind::kind_at(kind).wire as u64;
+    number::write_number(out, at, 2, tag::tag_of(wire, table::ident_in(cell)));
+    number::write_number(out, at + 2, size, num);
+    at + (2 + size)
+}
+
+// What stands before a content of `len` bytes: tag and length field. The answer is the content's place.
+fn put_field(out: &mut [u8], at: usize, cell: u64, len: usize, fine: &FineRows) -> usize
+    requires { FineRow (row_in cell) × (at + (fine.now.table.now.width + 2) ≤ length out.old) }
+    ensures next { result ≡ at + (fine.now.table.now.width + 2) }
+    ensures output { out.new ≡ sets out.old at (field_start fine.now cell len) }
+{
+    let width = fine.table.width;
+    number::write_number(out, at, 2, tag::tag_of(fine.wire, table::ident_in(cell)));
+    number::write_number(out, at + 2, width, len as u64);
+    at + (width + 2)
 }
 
 // A string's content: mark, text, terminator.
@@ -38,75 +52,59 @@ fn put_text(out: &mut [u8], at: usize, content: &[u8], place: usize, len: usize)
     out[at + 3 + len] = 0;
 }
 
-// The content of a string or an array, by what is kept of the row.
-fn put_content(out: &mut [u8], at: usize, cell: u64, num: u64, size: usize, content: &[u8])
-    requires { FineRow (row_in cell) × Kept content.now (kind_in cell) num size × (string ≤ kind_in cell) × (kind_in cell ≡ struct → ⊥)
-        × (0 < size) × (at + (size - 1) ≤ length out.old) }
-    ensures { out.new ≡ sets out.old at (content_in content.now (kind_in cell) num size) }
-{
-    if table::kind_in(cell) == kind::STRING {
-        put_text(out, at, content, num as usize, size - 5);
-        return;
-    }
-    part::put_run(out, at, content, num as usize, size - 1);
-}
-
-// A row's member at `at`: tag, then a number, or a length field and a content. The answer is the next place.
-fn put_row(
+// The member of a string or an array, whose bytes are a run of the content buffer. The answer is the next place.
+fn put_bytes(
     out: &mut [u8],
     at: usize,
     cell: u64,
-    num: u64,
-    size: usize,
-    width: usize,
-    ws: u64,
-    content: &[u8],
+    place: usize,
+    len: usize,
+    fine: &FineRows,
 ) -> usize
-    requires { FineRow (row_in cell) × Kept content.now (kind_in cell) num size × Wires width ws
-        × (at + own_len width cell size ≤ length out.old) }
-    ensures next { result ≡ at + own_len width cell size }
+    requires { FineRow (row_in cell) × (place + len ≤ length fine.now.content.now)
+        × (at + (fine.now.table.now.width + 2 + content_len (kind_in cell) (Value.Bytes place len) 0) ≤ length out.old) }
+    ensures next { result ≡ at + (fine.now.table.now.width + 2 + content_len (kind_in cell) (Value.Bytes place len) 0) }
     ensures output { out.new ≡ sets out.old at
-        (piece width (tag_for ws (row_in cell)) (put_in content.now (kind_in cell) num size) (size - 1)) }
+        (field_start fine.now cell (content_len (kind_in cell) (Value.Bytes place len) 0) ++ content_of fine.now cell place len) }
 {
-    if size == 0 {
-        return at;
+    if table::kind_in(cell) == kind::STRING {
+        let start = put_field(out, at, cell, len + 4, fine);
+        put_text(out, start, fine.content, place, len);
+        return start + (len + 4);
     }
-    let k = table::kind_in(cell);
-    number::write_number(out, at, 2, tag_for(cell, ws));
-    if k < kind::STRING {
-        number::write_number(out, at + 2, size - 1, num);
-        return at + (size + 1);
+    let start = put_field(out, at, cell, len, fine);
+    part::put_run(out, start, fine.content, place, len);
+    start + len
+}
+
+// The member of row i at `at`, where a struct holds `held` bytes. The answer is the next place.
+fn put_row(out: &mut [u8], at: usize, i: usize, held: usize, fine: &FineRows) -> usize
+    requires { (i < fine.now.table.now.count)
+        × (at + own_len fine.now.table.now.width (kind_in (cell_at fine.now i)) (value_at fine.now i).value ≤ length out.old) }
+    ensures next { result ≡ at + own_len fine.now.table.now.width (kind_in (cell_at fine.now i)) (value_at fine.now i).value }
+    ensures output { out.new ≡ sets out.old at (piece_at fine.now i held) }
+{
+    let cell = fine.table.cell(i);
+    let row = fine.rows[i];
+    match row.value {
+        Value::Absent => at,
+        Value::Unsigned(n) => put_number(out, at, cell, n),
+        Value::Signed(z) => put_number(out, at, cell, number::twos_of(z)),
+        Value::Float32(_) => put_number(out, at, cell, row.bits),
+        Value::Float64(_) => put_number(out, at, cell, row.bits),
+        Value::Bytes { place, len } => put_bytes(out, at, cell, place, len, fine),
+        Value::Members => put_field(out, at, cell, held, fine),
     }
-    number::write_number(out, at + 2, width, (size - 1) as u64);
-    if k == kind::STRUCT {
-        return at + (width + 2);
-    }
-    put_content(out, at + 2 + width, cell, num, size, content);
-    at + (width + size + 1)
 }
 
 // The members of the present rows, in table order, from the output's start. A struct's members follow as the rows do.
-// For this crate's own passes.
-pub fn put_rows(
-    out: &mut [u8],
-    cells: &[u64; 64],
-    nums: &[u64; 64],
-    sizes: &[usize; 64],
-    count: usize,
-    width: usize,
-    ws: u64,
-    content: &[u8],
-)
-    requires { Columns width ws count content.now cells.now nums.now sizes.now
-        × Wholes width ws content.now cells.now nums.now sizes.now count
-        × (length (bytes_in width ws content.now cells.now nums.now sizes.now count) ≤ length out.old) }
-    ensures { out.new ≡ sets out.old 0
-        (bytes_in width ws content.now cells.now nums.now sizes.now count) }
+// For this crate's own writer.
+pub fn put_rows(out: &mut [u8], held: &[usize; 64], fine: &FineRows)
+    requires { Holds fine.now held.now × (length (bytes_at fine.now 0) ≤ length out.old) }
+    ensures { out.new ≡ sets out.old 0 (bytes_at fine.now 0) }
 {
     let mut at: usize = 0;
-    let mut i: usize = 0;
-    while i < count {
-        at = put_row(out, at, cells[i], nums[i], sizes[i], width, ws, content);
-        i += 1;
+    for i in 0..fine.table.count {
+        at = put_row(out, at, i, held[i], fine);
     }
 }

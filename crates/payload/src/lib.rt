@@ -2,8 +2,8 @@
 
 #![tactic(auto)]
 
-mod columns;
 mod emit;
+mod fine;
 mod judge;
 mod member;
 pub mod read;

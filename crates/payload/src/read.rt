@@ -1,17 +1,19 @@
-// Reading a payload. The walk goes over the payload by places. Of each type row it keeps a word and a mark in two lent arrays of numbers, and
-// the rows are made of them once, at the end.
+// Reading a payload. A walker goes over the bytes by places, level by level, and keeps the row of each member that it meets.
 
-ghost use Rattle.std.specs.Prelude.{◌≡◌, List, ℕ, ◌+◌, ◌≤◌, ◌<◌, length, set, drop, replicate};
-ghost use Rattle.payload.specs.Cells.{table_in, FineTable, Stops};
-ghost use Rattle.payload.specs.Reading.{answer_of, walked_of, checked_of, reading_of};
+ghost use Rattle.std.specs.Prelude.{◌≡◌, ℕ, ◌+◌, ◌≤◌, ◌<◌, length, drop, take};
+ghost use Rattle.wire.specs.Kind.{struct};
+ghost use Rattle.payload.specs.Table.{row_at};
+ghost use Rattle.payload.specs.Cells.{table_in, Stops};
+ghost use Rattle.payload.specs.Reading.{cleared, checked_of, reading_of};
 ghost use Rattle.payload.specs.Reading.{lacks as lacks_of};
-ghost use Rattle.payload.specs.Walking.{kept, inner_of, Ready, LevelRead, MemberRead, stop_at, Ended, after_of, Admits, Admitted};
+ghost use Rattle.payload.specs.Walking.{types_in, met_in, inner_of, Ready, KnownRead, LevelRead, MemberRead};
 
-use super::member::{Frame, Member, Spot};
+use super::member::{Refusal, Span};
 use super::row::{Row, Value};
-use super::table::Table;
-use super::{member, rows, table};
+use super::table::{CheckedTable, Table};
+use super::{member, table};
 use wire::verdict::Verdict;
+use wire::{kind, number, tag};
 
 // The most bytes of a payload.
 pub const PAYLOAD_MOST: usize = 1400;
@@ -27,285 +29,194 @@ pub struct Reading {
     pub rows: [Row; 64],
 }
 
-// How a reading ended: its verdict, place and counts, and how many rows are kept. Rows beyond are absent.
+impl Reading {
+    // A refusal at a place: no member counts, and the first `filled` of the lent rows are set, to absent.
+    pub fn refused(verdict: Verdict, place: usize, filled: usize) -> Reading
+        ensures { result ≡ cleared filled verdict place }
+    {
+        Reading {
+            verdict,
+            place,
+            skipped: 0,
+            filled,
+            rows: [Row::ABSENT; 64],
+        }
+    }
+}
+
+// A level: its number, its rows from `first` to `stop`, and its bytes.
 #[derive(Clone, Copy)]
-pub struct Ending {
-    pub verdict: Verdict,
-    pub place: usize,
+pub struct Level {
+    pub number: u64,
+    pub first: usize,
+    pub stop: usize,
+    pub span: Span,
+}
+
+// A walk over a payload's bytes under a checked table: the rows of the members that were met, and how many unknown ones were skipped.
+#[derive(Clone, Copy)]
+pub struct Walker<'a> {
+    pub bytes: &'a [u8],
+    pub table: &'a CheckedTable,
+    pub rows: [Row; 64],
     pub skipped: usize,
-    pub filled: usize,
-    pub kept: usize,
 }
 
-// Why a reading is refused before its payload is looked at, or Accepted, and how many of the lent rows are set.
-#[derive(Clone, Copy)]
-pub struct Admission {
-    pub why: Verdict,
-    pub filled: usize,
-}
-
-// Where a walk stands, and how many members it skipped.
-#[derive(Clone, Copy)]
-pub struct Cursor {
-    pub at: usize,
-    pub skipped: usize,
-}
-
-#[derive(Clone, Copy)]
-pub enum Walk {
-    Going(Cursor),
-    Refused(Verdict, usize),
-}
-
-// Keeps a member of its row.
-fn keep(words: &mut [u64; 64], marks: &mut [usize; 64], s: Spot)
-    requires { s.row < 64 }
-    ensures { (words.new ≡ set words.old s.row s.word) × (marks.new ≡ set marks.old s.row s.mark) }
-{
-    let i = s.row;
-    words[i] = s.word;
-    marks[i] = s.mark;
-}
-
-// The level of a struct's members.
-fn inner(cells: &[u64; 64], f: Frame, s: Spot) -> Frame
-    requires { (f.level ≤ 4) × (s.row < f.count) × (f.count ≤ 64) }
-    ensures { (result ≡ inner_of f s result.stop) × Stops cells.now (s.row + 1) result.stop f.count (f.level + 1) }
-{
-    let first = s.row + 1;
-    let level = f.level + 1;
-    Frame {
-        first: first,
-        stop: table::level_end(cells, first, f.count, level),
-        level: level,
-        end: s.end,
-        count: f.count,
-        width: f.width,
+impl Walker<'_> {
+    // The level of the members of a struct, whose row and content these are.
+    fn inner(&self, number: u64, row: usize, content: Span) -> Level
+        requires { (number ≤ 4) × (row < self.now.table.now.count) }
+        ensures is { result ≡ inner_of number row content result.stop }
+        ensures stops { Stops self.now.table.now.cells (row + 1) result.stop self.now.table.now.count (number + 1) }
+    {
+        let first = row + 1;
+        let number = number + 1;
+        Level {
+            number,
+            first,
+            stop: self.table.level_end(first, number),
+            span: content,
+        }
     }
-}
 
-// Whether a required row of a level was not met.
-fn lacks(cells: &[u64; 64], marks: &[usize; 64], f: Frame) -> bool
-    requires { (f.count ≤ 64) × Stops cells.now f.first f.stop f.count f.level }
-    ensures { (words : List ℕ) → result ≡ lacks_of f.level (drop f.first (table_in f.count cells.now))
-        (drop f.first (kept (table_in f.count cells.now) words marks.now)) }
-{
-    let n = f.stop;
-    let level = f.level;
-    let mut i = f.first;
-    while i < n {
-        let c = cells[i];
-        if table::level_in(c) == level {
-            if table::is_required(c) {
-                if marks[i] == 0 {
-                    return true;
-                }
+    // Whether a required row of a level was not met.
+    fn lacks(&self, level: Level) -> bool
+        requires { Stops self.now.table.now.cells level.first level.stop self.now.table.now.count level.number × (length self.now.rows ≡ 64) }
+        ensures { result ≡ lacks_of level.number (drop level.first (types_in self.now)) (drop level.first (met_in self.now)) }
+    {
+        for i in level.first..level.stop {
+            let cell = self.table.cells[i];
+            if table::level_in(cell) == level.number
+                && table::is_required(cell)
+                && self.rows[i].is_absent()
+            {
+                return true;
             }
         }
-        i += 1;
+        false
     }
-    false
-}
 
-// A member, with the members of a struct.
-#[cycle(read_level_read_member)]
-fn read_member(
-    p: &[u8],
-    cells: &[u64; 64],
-    words: &mut [u64; 64],
-    marks: &mut [usize; 64],
-    c: Cursor,
-    f: Frame,
-) -> Walk
-    requires { Ready p.now cells.now words.old marks.old c f × (c.at < f.end) }
-    ensures { MemberRead p.now cells.now words.old marks.old c f result words.new marks.new }
-{
-    match member::member_at(p, cells, marks, c.at, f) {
-        Member::Bad(why, place) => Walk::Refused(why, place),
-        Member::Unknown(to) => Walk::Going(Cursor {
-            at: to,
-            skipped: c.skipped + 1,
-        }),
-        Member::Leaf(s) => {
-            keep(words, marks, s);
-            Walk::Going(Cursor {
-                at: s.end,
-                skipped: c.skipped,
-            })
+    // The known member of a row, whose tag stands at a place: its end. A struct is met before its members are.
+    #[cycle(walk)]
+    fn read_known(
+        &mut self,
+        row: usize,
+        wire: u64,
+        at: usize,
+        level: Level,
+    ) -> Result<usize, Refusal>
+        requires { Ready self.old at level × (at + 2 ≤ level.span.end) × (row < self.old.table.now.count) × (level.number ≤ 4) }
+        ensures { KnownRead self.old row wire at level result self.new }
+    {
+        let cell = self.table.cells[row];
+        let kind = table::kind_in(cell);
+        if !kind::wire_fits(kind, wire) {
+            return Err(Refusal {
+                verdict: Verdict::Wire,
+                place: at,
+            });
         }
-        Member::Struct(s) => {
-            keep(words, marks, s);
-            let start = Cursor {
-                at: s.from,
-                skipped: c.skipped,
-            };
-            read_level(p, cells, words, marks, start, inner(cells, f, s))
+        if !self.rows[row].is_absent() {
+            return Err(Refusal {
+                verdict: Verdict::Twice,
+                place: at,
+            });
         }
+        let rest = Span {
+            from: at + 2,
+            end: level.span.end,
+        };
+        let content = member::content_in(self.bytes, self.table.width, wire, rest)?;
+        if kind == kind::STRUCT {
+            self.rows[row] = Row::plain(Value::Members);
+            self.read_level(self.inner(level.number, row, content))?;
+        } else {
+            self.rows[row] = member::shown(self.bytes, cell, content)?;
+        }
+        Ok(content.end)
     }
-}
 
-// The members of a level, to its end.
-#[cycle(read_level_read_member)]
-fn read_level(
-    p: &[u8],
-    cells: &[u64; 64],
-    words: &mut [u64; 64],
-    marks: &mut [usize; 64],
-    c: Cursor,
-    f: Frame,
-) -> Walk
-    requires { Ready p.now cells.now words.old marks.old c f }
-    ensures { LevelRead p.now cells.now words.old marks.old c f result words.new marks.new }
-{
-    let mut u = c;
-    let end = f.end;
-    while u.at < end {
-        match read_member(p, cells, words, marks, u, f) {
-            Walk::Refused(why, place) => {
-                return Walk::Refused(why, place);
-            }
-            Walk::Going(next) => {
-                u = next;
+    // The member at a place: its end. An unknown one is skipped.
+    #[cycle(walk)]
+    fn read_member(&mut self, at: usize, level: Level) -> Result<usize, Refusal>
+        requires { Ready self.old at level × (at < level.span.end) }
+        ensures { MemberRead self.old at level result self.new }
+    {
+        let end = level.span.end;
+        if end - at < 2 {
+            return Err(Refusal {
+                verdict: Verdict::TagCut,
+                place: at,
+            });
+        }
+        let tag = number::read_number(self.bytes, at, 2);
+        let wire = tag::wire_of(tag);
+        match self
+            .table
+            .find(level.first, level.stop, level.number, tag::ident_of(tag))
+        {
+            Some(row) => self.read_known(row, wire, at, level),
+            None => {
+                let rest = Span { from: at + 2, end };
+                let unknown = member::content_in(self.bytes, self.table.width, wire, rest)?;
+                self.skipped += 1;
+                Ok(unknown.end)
             }
         }
     }
-    if lacks(cells, marks, f) {
-        return Walk::Refused(Verdict::Missing, end);
-    }
-    Walk::Going(u)
-}
 
-// A refusal: no member counts, and no row is kept; `filled` rows are set.
-fn stop(why: Verdict, place: usize, filled: usize) -> Ending
-    ensures { result ≡ stop_at filled why place }
-{
-    Ending {
-        verdict: why,
-        place: place,
-        skipped: 0,
-        filled: filled,
-        kept: 0,
-    }
-}
-
-// The walk under a checked table of `count` cells.
-fn read_cells(
-    p: &[u8],
-    cells: &[u64; 64],
-    words: &mut [u64; 64],
-    marks: &mut [usize; 64],
-    count: usize,
-    width: usize,
-) -> Ending
-    requires { FineTable count cells.now × (width ≤ 4) × (words.old ≡ replicate 64 0) × (marks.old ≡ replicate 64 0) }
-    ensures { Ended cells.now words.new marks.new result (answer_of count (walked_of width (table_in count cells.now) p.now)) }
-{
-    let start = Cursor { at: 0, skipped: 0 };
-    let f = Frame {
-        first: 0,
-        stop: count,
-        level: 1,
-        end: p.len(),
-        count: count,
-        width: width,
-    };
-    match read_level(p, cells, words, marks, start, f) {
-        Walk::Refused(why, place) => stop(why, place, count),
-        Walk::Going(c) => Ending {
-            verdict: Verdict::Accepted,
-            place: 0,
-            skipped: c.skipped,
-            filled: count,
-            kept: count,
-        },
+    // The members of a level, to its end.
+    #[cycle(walk)]
+    fn read_level(&mut self, level: Level) -> Result<(), Refusal>
+        requires { Ready self.old level.span.from level }
+        ensures { LevelRead self.old level.span.from level result self.new }
+    {
+        let mut at = level.span.from;
+        while at < level.span.end {
+            at = self.read_member(at, level)?;
+        }
+        if self.lacks(level) {
+            return Err(Refusal {
+                verdict: Verdict::Missing,
+                place: level.span.end,
+            });
+        }
+        Ok(())
     }
 }
 
-// 17, then the walk, under a checked table of `count` cells.
-fn limited(
-    p: &[u8],
-    cells: &[u64; 64],
-    words: &mut [u64; 64],
-    marks: &mut [usize; 64],
-    count: usize,
-    width: usize,
-) -> Ending
-    requires { FineTable count cells.now × (width ≤ 4) × (words.old ≡ replicate 64 0) × (marks.old ≡ replicate 64 0) }
-    ensures { Ended cells.now words.new marks.new result (checked_of p.now (table_in count cells.now) count width) }
+// Reads a payload under a checked table. For the library's own readers.
+pub fn read_checked(p: &[u8], table: &CheckedTable) -> Reading
+    ensures { result ≡ checked_of p.now (table_in table.now.count table.now.cells) table.now.count table.now.width }
 {
+    let filled = table.count;
     if PAYLOAD_MOST < p.len() {
-        return stop(Verdict::Large, 0, count);
+        return Reading::refused(Verdict::Large, 0, filled);
     }
-    read_cells(p, cells, words, marks, count, width)
-}
-
-// A refusal that is already given, or 17 and the walk under a checked table of `count` cells.
-fn after(
-    why: Verdict,
-    p: &[u8],
-    cells: &[u64; 64],
-    words: &mut [u64; 64],
-    marks: &mut [usize; 64],
-    count: usize,
-    width: usize,
-) -> Ending
-    requires { Admits why count width cells.now × (words.old ≡ replicate 64 0) × (marks.old ≡ replicate 64 0) }
-    ensures { Ended cells.now words.new marks.new result (after_of why p.now (table_in count cells.now) count width) }
-{
-    if why.number() != 0 {
-        return stop(why, 0, count);
+    let mut walker = Walker {
+        bytes: p,
+        table,
+        rows: [Row::ABSENT; 64],
+        skipped: 0,
+    };
+    let level = Level {
+        number: 1,
+        first: 0,
+        stop: filled,
+        span: Span {
+            from: 0,
+            end: p.len(),
+        },
+    };
+    if let Err(refusal) = walker.read_level(level) {
+        return Reading::refused(refusal.verdict, refusal.place, filled);
     }
-    limited(p, cells, words, marks, count, width)
-}
-
-// Reads a payload under a checked table of `count` cells, unless a refusal is already given: then no row is kept, and `count` are set. For the
-// library's own readers. The rows are made here and in one place, for a by-value array costs a copy at each call.
-pub fn read_after(why: Verdict, p: &[u8], cells: &[u64; 64], count: usize, width: usize) -> Reading
-    requires { Admits why count width cells.now }
-    ensures { result ≡ after_of why p.now (table_in count cells.now) count width }
-{
-    let mut words = [0u64; 64];
-    let mut marks = [0usize; 64];
-    let o = after(why, p, cells, &mut words, &mut marks, count, width);
-    let n = o.kept;
-    let mut rows = [rows::plain(Value::Absent); 64];
-    let mut i: usize = 0;
-    while i < n {
-        let row = rows::kept_row(table::kind_in(cells[i]), words[i], marks[i]);
-        rows[i] = row;
-        i += 1;
-    }
-    let verdict = o.verdict;
     Reading {
-        verdict: verdict,
-        place: o.place,
-        skipped: o.skipped,
-        filled: o.filled,
-        rows: rows,
-    }
-}
-
-// 1, then 2. Where neither is given the cells are the table's.
-fn admitted(t: Table, room: usize, cells: &mut [u64; 64]) -> Admission
-    requires { length cells.old ≡ 64 }
-    ensures { Admitted t room cells.new result }
-{
-    if !table::checked(t, cells) {
-        return Admission {
-            why: Verdict::Table,
-            filled: 0,
-        };
-    }
-    let n = t.count;
-    if room < n {
-        return Admission {
-            why: Verdict::Room,
-            filled: 0,
-        };
-    }
-    Admission {
-        why: Verdict::Accepted,
-        filled: n,
+        verdict: Verdict::Accepted,
+        place: 0,
+        skipped: walker.skipped,
+        filled,
+        rows: walker.rows,
     }
 }
 
@@ -313,8 +224,12 @@ fn admitted(t: Table, room: usize, cells: &mut [u64; 64]) -> Admission
 pub fn read_payload(p: &[u8], t: Table, room: usize) -> Reading
     ensures { result ≡ reading_of p.now t room }
 {
-    let mut cells = [0u64; 64];
-    let a = admitted(t, room, &mut cells);
-    let why = a.why;
-    read_after(why, p, &cells, a.filled, t.width)
+    let checked = CheckedTable::of(&t);
+    let Some(table) = &checked else {
+        return Reading::refused(Verdict::Table, 0, 0);
+    };
+    if room < table.count {
+        return Reading::refused(Verdict::Room, 0, 0);
+    }
+    read_checked(p, table)
 }

@@ -1,5 +1,8 @@
 // Value rows.
 
+ghost use Rattle.std.specs.Prelude.{◌≡◌};
+ghost use Rattle.payload.specs.Row.{plain as plain_row, absent_row, is_absent};
+
 // What a row shows. A run of bytes is a place and a length.
 #[derive(Clone, Copy)]
 pub enum Value {
@@ -17,4 +20,26 @@ pub enum Value {
 pub struct Row {
     pub value: Value,
     pub bits: u64,
+}
+
+impl Row {
+    // The row of a member that was not met.
+    pub const ABSENT: Row = Row {
+        value: Value::Absent,
+        bits: 0,
+    };
+
+    // A row whose value has no bits beside it.
+    pub fn plain(value: Value) -> Row
+        ensures { result ≡ plain_row value }
+    {
+        Row { value, bits: 0 }
+    }
+
+    // Whether the row's member was not met, or is not to be written.
+    pub fn is_absent(self) -> bool
+        ensures { result ≡ is_absent self }
+    {
+        matches!(self.value, Value::Absent)
+    }
 }

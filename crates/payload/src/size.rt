@@ -1,139 +1,96 @@
 // Sizes, from the last row to the first: what each struct holds, and what the whole payload has.
 
-ghost use Rattle.std.specs.Prelude.{◌≡◌, List, ℕ, ◌+◌, ◌-◌, ◌≤◌, ◌<◌, length, get_or, ltb};
+ghost use Rattle.std.specs.Prelude.{◌≡◌, ℕ, suc, ◌+◌, ◌≤◌, ◌<◌, length, get_or, ltb, IfOk};
 ghost use Rattle.wire.specs.Choose.{pick};
-ghost use Rattle.payload.specs.Sizes.{own_len, inner_in, whole_in, field_top, summed, Below, Columns, Measured};
+ghost use Rattle.payload.specs.Parts.{under, wide_under};
+ghost use Rattle.payload.specs.Sizes.{field_top, content_len, head_len, ShortRun, measured_is};
+ghost use Rattle.payload.specs.Fine.{parts_at, bytes_at, Holds};
 
+use super::fine::FineRows;
+use super::row::Value;
 use super::table;
 use wire::kind;
-
-// The bytes of the first rows from some row on, as far as they are of level 1, 2, 3 or 4 or deeper.
-#[derive(Clone, Copy)]
-pub struct Sums {
-    pub one: usize,
-    pub two: usize,
-    pub three: usize,
-    pub four: usize,
-}
-
-// What the sizes give: some content is over what its length field holds, or the bytes of the payload.
-#[derive(Clone, Copy)]
-pub enum Sized {
-    Wide,
-    Total(usize),
-}
+use wire::verdict::Verdict;
 
 // How many numbers a length field of this width holds.
 fn field_top(width: usize) -> usize
     ensures { result ≡ field_top width }
 {
-    if width == 1 {
-        return 256;
-    }
-    if width == 2 {
-        return 65536;
-    }
-    4294967296
-}
-
-// The bytes of a row's member, without what a struct holds, by what is kept of the row.
-fn own_len(cell: u64, size: usize, width: usize) -> usize
-    requires { (size < 9223372036854775820) × (width ≤ 4) }
-    ensures { result ≡ own_len width cell size }
-{
-    if size == 0 {
-        return 0;
-    }
-    let k = table::kind_in(cell);
-    if k < kind::STRING {
-        return size + 1;
-    }
-    if k == kind::STRUCT {
-        return width + 2;
-    }
-    width + size + 1
-}
-
-// The bytes that a struct of this level holds.
-fn inner(s: Sums, level: u64) -> usize
-    ensures { result ≡ inner_in s level }
-{
-    if level == 1 {
-        return s.two;
-    }
-    if level == 2 {
-        return s.three;
-    }
-    if level == 3 {
-        return s.four;
-    }
-    0
-}
-
-// What is kept of a row's size, with what a struct holds.
-fn whole(cell: u64, size: usize, s: Sums) -> usize
-    requires { Below 9223372036854775808 s }
-    ensures { result ≡ whole_in cell size s }
-{
-    if size == 0 {
-        return 0;
-    }
-    if table::kind_in(cell) == kind::STRUCT {
-        return inner(s, table::level_in(cell)) + 1;
-    }
-    size
-}
-
-// The sum of level l, before which a row of level `at` comes.
-fn kept(at: u64, l: u64, own: usize, sum: usize) -> usize
-    requires { own + sum < 18446744073709551616 }
-    ensures { result ≡ pick (ltb at l) 0 (own + sum) }
-{
-    if at < l {
-        return 0;
-    }
-    own + sum
-}
-
-// The sums with one row more in front.
-fn added(level: u64, own: usize, s: Sums) -> Sums
-    requires { Below (9223372036854775808 - own) s × (own < 9223372036854775808) }
-    ensures { result ≡ summed level own s }
-{
-    Sums {
-        one: own + s.one,
-        two: kept(level, 2, own, s.two),
-        three: kept(level, 3, own, s.three),
-        four: kept(level, 4, own, s.four),
+    match width {
+        1 => 256,
+        2 => 65536,
+        _ => 4294967296,
     }
 }
 
-// The bytes of the payload, where each content fits its length field. What is kept of a struct's size takes in what the struct holds.
-// For this crate's own passes.
-pub fn measure(cells: &[u64; 64], sizes: &mut [usize; 64], count: usize, width: usize) -> Sized
-    requires { (count ≤ 64) × (width ≤ 4) × (length sizes.old ≡ 64) × ((i : ℕ) → i < count → get_or sizes.old i 0 < 9223372036854775820) }
-    ensures answer { (ws : ℕ) (buf nums : List ℕ) → Columns width ws count buf cells.now nums sizes.old
-        → Measured width ws count buf cells.now nums sizes.old sizes.new result }
-    ensures long { length sizes.new ≡ 64 }
+// The bytes of a value's content in a row of a kind, where a struct holds `held` bytes. A string has its mark and its terminator.
+fn content_len(kind: usize, v: Value, held: usize) -> usize
+    requires { (kind < 15) × ShortRun v }
+    ensures { result ≡ content_len kind v held }
 {
+    match v {
+        Value::Absent => 0,
+        Value::Bytes { place: _, len } => { if kind == kind::STRING { len + 4 } else { len } }
+        Value::Members => held,
+        _ => kind::size_of(kind),
+    }
+}
+
+// The bytes before a value's content: its tag, and a length field, which a number has not.
+fn head_len(width: usize, v: Value) -> usize
+    requires { width ≤ 4 }
+    ensures { result ≡ head_len width v }
+{
+    match v {
+        Value::Absent => 0,
+        Value::Bytes { place: _, len: _ } => width + 2,
+        Value::Members => width + 2,
+        _ => 2,
+    }
+}
+
+// Counts in a row of this level, which stands in front of those counted so far: its own bytes are below each level above it, and what was
+// below deeper ones belongs to no later row.
+fn count_in(sums: &mut [usize; 5], level: u64, own: usize)
+    requires { (length sums.old ≡ 5) × ((d : ℕ) → d < 5 → own + get_or sums.old d 0 < 18446744073709551616) }
+    ensures long { length sums.new ≡ 5 }
+    ensures each { (d : ℕ) → d < 5 → get_or sums.new d 0 ≡ pick (ltb level (suc d)) 0 (own + get_or sums.old d 0) }
+{
+    for (above, sum) in sums.iter_mut().enumerate() {
+        *sum = if (above as u64) < level {
+            own + *sum
+        } else {
+            0
+        };
+    }
+}
+
+// The bytes of the payload, where each content fits its length field; then `held` has what each struct holds. The sums are those of the
+// bytes below each level, as far as the rows in front have passed. For this crate's own writer.
+pub fn measure(fine: &FineRows, held: &mut [usize; 64]) -> Result<usize, Verdict>
+    requires { length held.old ≡ 64 }
+    ensures answer { result ≡ measured_is (wide_under fine.now.table.now.width 1 (parts_at fine.now 0)) (length (bytes_at fine.now 0)) }
+    ensures holds { IfOk result (λ total. Holds fine.now held.new) }
+    ensures long { length held.new ≡ 64 }
+{
+    let width = fine.table.width;
     let top = field_top(width);
-    let mut s = Sums {
-        one: 0,
-        two: 0,
-        three: 0,
-        four: 0,
-    };
-    let mut i = count;
-    while 0 < i {
-        i -= 1;
-        let cell = cells[i];
-        let size = sizes[i];
-        let all = whole(cell, size, s);
-        if top < all {
-            return Sized::Wide;
+    let mut sums = [0usize; 5];
+    for i in (0..fine.table.count).rev() {
+        let cell = fine.table.cell(i);
+        let kind = table::kind_in(cell);
+        let level = table::level_in(cell);
+        let v = fine.rows[i].value;
+        let below = sums[level as usize];
+        if top <= content_len(kind, v, below) {
+            return Err(Verdict::Wide);
         }
-        sizes[i] = all;
-        s = added(table::level_in(cell), own_len(cell, size, width), s);
+        held[i] = below;
+        count_in(
+            &mut sums,
+            level,
+            head_len(width, v) + content_len(kind, v, 0),
+        );
     }
-    Sized::Total(s.one)
+    Ok(sums[0])
 }

@@ -1,15 +1,11 @@
 // The type table, its rules, and its rows as numbers.
 
-ghost use Rattle.std.specs.Prelude.{◌≡◌, true, ℕ, ◌+◌, ◌*◌, ◌/◌, ◌≤◌, ◌<◌, length, drop, get_or, leb};
+ghost use Rattle.std.specs.Prelude.{◌≡◌, ◌≢◌, true, false, ℕ, ◌+◌, ◌*◌, ◌/◌, ◌≤◌, ◌<◌, length, get_or, leb, MatchOption, IfSome, is_some, unwrap_or};
 ghost use Rattle.wire.specs.Choose.{and};
-ghost use Rattle.payload.specs.Table.{elem_fits, struct_fits, row_fits, level_most, width_fits, find, idents_differ, table_fits};
-ghost use Rattle.payload.specs.Cells.{bit_of, cell_of, ident_in, level_in, kind_in, elem_in, required_in, table_in, FineRow, FineTable, found_at, search_at, missed, Within, Stops, KeyFour, Checked};
+ghost use Rattle.payload.specs.Table.{elem_fits, struct_fits, row_fits, level_most, width_fits, idents_differ, table_fits};
+ghost use Rattle.payload.specs.Cells.{cell_of, ident_in, level_in, kind_in, elem_in, required_in, row_in, table_in, FineRow, FineTable, search_at, Within, Stops, Checked, SoundTable};
 
-const ARRAY: u8 = 13;
-
-const STRUCT: u8 = 14;
-
-use wire::number;
+use wire::kind;
 
 // A type row: level 1 to 4, Data ID 0 to 4,095, kind 1 to 14, an array's element kind, and whether the row is required.
 #[derive(Clone, Copy)]
@@ -31,11 +27,74 @@ pub struct Table {
     pub fixed: bool,
 }
 
-// A row's index, or no row.
+// A checked type table: its rows as cells, one number each, how many rows it has, and the width of its length fields. A value of this type
+// keeps the table's rules, so that readers and writers that are handed one need not ask.
 #[derive(Clone, Copy)]
-pub enum Found {
-    At(usize),
-    Nothing,
+pub struct CheckedTable {
+    pub cells: [u64; 64],
+    pub count: usize,
+    pub width: usize,
+    pub ghost sound: { SoundTable cells count width },
+}
+
+impl CheckedTable {
+    // The checked form of a table that keeps its rules. A reading and a writing would each copy the cells once more where it is a call.
+    #[inline(always)]
+    pub fn of(t: &Table) -> Option<CheckedTable>
+        ensures { MatchOption result (table_fits t.now ≡ false) (λ c.
+            (c.count ≡ t.now.count) × (c.width ≡ t.now.width) × Checked t.now c.cells true) }
+    {
+        let mut cells = [0u64; 64];
+        if !checked(t, &mut cells) {
+            return None;
+        }
+        Some(CheckedTable {
+            cells,
+            count: t.count,
+            width: t.width,
+        })
+    }
+
+    // The cell of a row.
+    pub fn cell(&self, i: usize) -> u64
+        requires { i < self.now.count }
+        ensures is { result ≡ get_or self.now.cells i 0 }
+        ensures fine { FineRow (row_in result) }
+    {
+        self.cells[i]
+    }
+
+    // Where the rows of a level end that begin at `first`: at the first row above the level, or with the table.
+    pub fn level_end(&self, first: usize, level: u64) -> usize
+        requires { first ≤ self.now.count }
+        ensures { Stops self.now.cells first result self.now.count level }
+    {
+        for i in first..self.count {
+            if level_in(self.cells[i]) < level {
+                return i;
+            }
+        }
+        self.count
+    }
+
+    // The row of a Data ID among the direct members of the level whose rows are those from `first` to `stop`.
+    pub fn find(&self, first: usize, stop: usize, level: u64, ident: u64) -> Option<usize>
+        requires { Stops self.now.cells first stop self.now.count level × (level < 16) × (ident < 4096) }
+        ensures is { result ≡ search_at self.now.count self.now.cells level ident first }
+        ensures within { Within self.now.cells first self.now.count level result }
+    {
+        let key = ident * 16 + level;
+        let mut at = first;
+        // Four rows at a time: a search of four is unrolled, and takes 5 instructions for a row; one search of all takes 9, as measured.
+        while at + 4 <= stop {
+            if let Some(n) = first_with(&self.cells[at..at + 4], key) {
+                return Some(at + n);
+            }
+            at += 4;
+        }
+        let n = first_with(&self.cells[at..stop], key)?;
+        Some(at + n)
+    }
 }
 
 // The level of a cell's row.
@@ -73,129 +132,37 @@ pub fn is_required(c: u64) -> bool
     c % 2 == 1
 }
 
-// A Data ID as a wide number, for the same reason.
-fn wide16(x: u16) -> u64
-    ensures { result ≡ x }
-{
-    x as u64
-}
-
-// A level as an index, for what is kept of each level.
-fn index(x: u8) -> usize
-    ensures { result ≡ x }
-{
-    x as usize
-}
-
-// The bit of a cell that says required.
-fn bit_of(b: bool) -> u64
-    ensures { result ≡ bit_of b }
-{
-    if b {
-        return 1;
-    }
-    0
-}
-
 // The cell of a row: a walk copies and compares one number where a row has five.
 fn packed(r: TypeRow) -> u64
     requires { FineRow r }
     ensures { result ≡ cell_of r }
 {
-    ((wide16(r.ident) * 16 + u64::from(r.level)) * 16 + u64::from(r.kind)) * 32
+    ((u64::from(r.ident) * 16 + u64::from(r.level)) * 16 + u64::from(r.kind)) * 32
         + u64::from(r.elem) * 2
-        + bit_of(r.required)
+        + u64::from(r.required)
 }
 
-// The row of a Data ID among the direct members of the level whose rows begin at `first`; one test compares level and Data ID.
-// For this crate's own walk.
-fn find_row(cells: &[u64; 64], first: usize, count: usize, level: u64, ident: u64) -> Found
-    requires { (count ≤ 64) × (level < 16) × (ident < 4096) }
-    ensures { (result ≡ found_at first (find level ident (drop first (table_in count cells.now)))) × Within cells.now first count level result }
+// The first of these rows that has a key, which is level and Data ID.
+fn first_with(cells: &[u64], key: u64) -> Option<usize>
+    ensures found { IfSome result (λ i. (i < length cells.now) × (get_or cells.now i 0 / 512 ≡ key)) }
+    ensures before { (k : ℕ) → k < unwrap_or result (length cells.now) → get_or cells.now k 0 / 512 ≢ key }
 {
-    let key = ident * 16 + level;
-    let mut i = first;
-    while i < count {
-        let c = cells[i];
-        if c / 512 == key {
-            return Found::At(i);
-        }
-        if level_in(c) < level {
-            return Found::Nothing;
-        }
-        i += 1;
-    }
-    Found::Nothing
+    cells.iter().position(|cell| *cell / 512 == key)
 }
 
-// Where the rows of a level end that begin at `first`: at the first row above the level, or with the table.
-// For this crate's own walk.
-pub fn level_end(cells: &[u64; 64], first: usize, count: usize, level: u64) -> usize
-    requires { (first ≤ count) × (count ≤ 64) }
-    ensures { Stops cells.now first result count level }
+// Whether a row of the same level and Data ID comes behind a row, before its level ends.
+fn comes_again(cell: u64, behind: &[u64]) -> bool
+    ensures { result ≡ is_some (search_at (length behind.now) behind.now (level_in cell) (ident_in cell) 0) }
 {
-    let mut i = first;
-    while i < count {
-        if level_in(cells[i]) < level {
-            return i;
+    for other in behind {
+        if *other / 512 == cell / 512 {
+            return true;
         }
-        i += 1;
-    }
-    i
-}
-
-// How many of the four rows at `at` come before the first that has a key, which is level and Data ID.
-fn key_four(cells: &[u64; 64], at: usize, key: u64) -> usize
-    requires { at + 4 ≤ 64 }
-    ensures { KeyFour cells.now at key result }
-{
-    if cells[at] / 512 == key {
-        return 0;
-    }
-    if cells[at + 1] / 512 == key {
-        return 1;
-    }
-    if cells[at + 2] / 512 == key {
-        return 2;
-    }
-    if cells[at + 3] / 512 == key {
-        return 3;
-    }
-    4
-}
-
-// The row of a key from `first` to `stop`.
-fn find_key(cells: &[u64; 64], first: usize, stop: usize, key: u64) -> Found
-    requires { (first ≤ stop) × (stop ≤ 64) }
-    ensures { (l x : ℕ) → l < 16 → key ≡ x * 16 + l → ((i : ℕ) → first ≤ i → i < stop → l ≤ level_in (get_or cells.now i 0))
-        → (result ≡ search_at stop cells.now l x first) × Within cells.now first stop l result }
-{
-    let mut i = first;
-    while i < stop {
-        if cells[i] / 512 == key {
-            return Found::At(i);
-        }
-        i += 1;
-    }
-    Found::Nothing
-}
-
-// The row of a Data ID among the direct members of the level whose rows are those from `first` to `stop`, four at a time.
-// For this crate's own walk.
-pub fn find_in(cells: &[u64; 64], first: usize, stop: usize, level: u64, ident: u64) -> Found
-    requires { (first ≤ stop) × (stop ≤ 64) × (level < 16) × (ident < 4096) × ((i : ℕ) → first ≤ i → i < stop → level ≤ level_in (get_or cells.now i 0)) }
-    ensures { (result ≡ search_at stop cells.now level ident first) × Within cells.now first stop level result }
-{
-    let key = ident * 16 + level;
-    let mut i = first;
-    while i + 4 <= stop {
-        let n = key_four(cells, i, key);
-        i += n;
-        if n < 4 {
-            return Found::At(i);
+        if level_in(*other) < level_in(cell) {
+            return false;
         }
     }
-    find_key(cells, i, stop, key)
+    false
 }
 
 // The level that the next row may have at most: one more behind a struct.
@@ -203,7 +170,7 @@ fn level_most(r: TypeRow) -> u8
     requires { r.level ≤ 4 }
     ensures { result ≡ level_most r }
 {
-    if r.kind == STRUCT {
+    if usize::from(r.kind) == kind::STRUCT {
         return r.level + 1;
     }
     r.level
@@ -214,16 +181,10 @@ fn elem_fits(r: TypeRow) -> bool
     requires { r.level ≤ 4 }
     ensures { result ≡ and (elem_fits r) (struct_fits r) }
 {
-    if r.kind == ARRAY {
-        if r.elem == 0 {
-            return false;
-        }
-        return r.elem <= 11;
+    if usize::from(r.kind) == kind::ARRAY {
+        return matches!(r.elem, 1..=11);
     }
-    if r.elem != 0 {
-        return false;
-    }
-    level_most(r) <= 4
+    r.elem == 0 && level_most(r) <= 4
 }
 
 // Whether a row keeps its rules, where its level may be at most `most`.
@@ -231,114 +192,69 @@ fn row_fits(r: TypeRow, most: u8) -> bool
     requires { most ≤ 4 }
     ensures { result ≡ row_fits most r }
 {
-    if r.level == 0 {
-        return false;
-    }
-    if most < r.level {
-        return false;
-    }
-    if 4095 < r.ident {
-        return false;
-    }
-    if r.kind == 0 {
-        return false;
-    }
-    if 14 < r.kind {
-        return false;
-    }
-    elem_fits(r)
-}
-
-// Whether a search found no row.
-fn is_nothing(f: Found) -> bool
-    ensures { result ≡ missed f }
-{
-    match f {
-        Found::At(_) => false,
-        Found::Nothing => true,
-    }
+    1 <= r.level && r.level <= most && r.ident <= 4095 && matches!(r.kind, 1..=14) && elem_fits(r)
 }
 
 // Whether the Data IDs differ among the direct members of each struct and among the rows of level 1: each row is searched behind itself.
-fn all_differ(cells: &[u64; 64], count: usize) -> bool
-    requires { FineTable count cells.now }
-    ensures { result ≡ idents_differ (table_in count cells.now) }
+fn all_differ(cells: &[u64]) -> bool
+    requires { FineTable (length cells.now) cells.now }
+    ensures { result ≡ idents_differ (table_in (length cells.now) cells.now) }
 {
-    let mut i: usize = 0;
-    while i < count {
-        let c = cells[i];
-        let next = i + 1;
-        let found = find_row(cells, next, count, level_in(c), ident_in(c));
-        if !is_nothing(found) {
+    for (i, cell) in cells.iter().enumerate() {
+        if comes_again(*cell, &cells[i + 1..]) {
             return false;
         }
-        i = next;
     }
     true
 }
 
 // Whether Data IDs differ in their last six bits already: a row leaves its struct's number at the place of its level and bits.
-fn spread(cells: &[u64; 64], count: usize) -> bool
-    requires { FineTable count cells.now }
-    ensures { result ≡ true → idents_differ (table_in count cells.now) ≡ true }
+fn spread(cells: &[u64]) -> bool
+    requires { FineTable (length cells.now) cells.now }
+    ensures { result ≡ true → idents_differ (table_in (length cells.now) cells.now) ≡ true }
 {
     let mut marks = [0u8; 320];
     let mut owners = [1u8; 6];
-    let mut i: usize = 0;
-    while i < count {
-        let c = cells[i];
-        let l = level_in(c) as usize;
-        let place = l * 64 + (ident_in(c) % 64) as usize;
+    for (i, cell) in cells.iter().enumerate() {
+        let l = level_in(*cell) as usize;
+        let place = l * 64 + (ident_in(*cell) % 64) as usize;
         let owner = owners[l];
         if marks[place] == owner {
             return false;
         }
         marks[place] = owner;
         owners[l + 1] = (i + 2) as u8;
-        i += 1;
     }
     true
 }
 
 // Whether the Data IDs differ among the direct members of each struct and among the rows of level 1; most tables need no search for it.
-fn idents_differ(cells: &[u64; 64], count: usize) -> bool
-    requires { FineTable count cells.now }
-    ensures { result ≡ idents_differ (table_in count cells.now) }
+fn idents_differ(cells: &[u64]) -> bool
+    requires { FineTable (length cells.now) cells.now }
+    ensures { result ≡ idents_differ (table_in (length cells.now) cells.now) }
 {
-    if spread(cells, count) {
-        return true;
-    }
-    all_differ(cells, count)
+    spread(cells) || all_differ(cells)
 }
 
 // Whether a length width is 1, 2 or 4, as length fields have it.
 fn width_fits(w: usize) -> bool
     ensures { result ≡ width_fits w }
 {
-    if w == 1 {
-        return true;
-    }
-    if w == 2 {
-        return true;
-    }
-    w == 4
+    matches!(w, 1 | 2 | 4)
 }
 
 // Whether Data IDs still rise: they did before, and `last`, one more than the last of the struct, is at most this one.
 fn rises(before: bool, last: u64, ident: u64) -> bool
     ensures { result ≡ and before (leb last ident) }
 {
-    if before {
-        return last <= ident;
-    }
-    false
+    before && last <= ident
 }
 
 // Whether a table keeps its rules, with its rows' cells. Data IDs that rise in each struct differ; only others are compared one by one.
 // For the library's own readers and writers; users call `table_fits`.
-pub fn checked(t: Table, cells: &mut [u64; 64]) -> bool
+pub fn checked(t: &Table, cells: &mut [u64; 64]) -> bool
     requires { length cells.old ≡ 64 }
-    ensures { Checked t cells.new result }
+    ensures { Checked t.now cells.new result }
 {
     let n = t.count;
     if n == 0 {
@@ -353,25 +269,23 @@ pub fn checked(t: Table, cells: &mut [u64; 64]) -> bool
     let mut lasts = [0u64; 6];
     let mut rising = true;
     let mut most: u8 = 1;
-    let mut i: usize = 0;
-    while i < n {
+    for i in 0..n {
         let r = t.rows[i];
         if !row_fits(r, most) {
             return false;
         }
         cells[i] = packed(r);
-        let l = index(r.level);
-        let id = wide16(r.ident);
+        let l = usize::from(r.level);
+        let id = u64::from(r.ident);
         rising = rises(rising, lasts[l], id);
         lasts[l] = id + 1;
         lasts[l + 1] = 0;
         most = level_most(r);
-        i += 1;
     }
     if rising {
         return true;
     }
-    idents_differ(cells, n)
+    idents_differ(&cells[..n])
 }
 
 // Whether a table keeps its rules, for a caller that has no use for the cells.
@@ -379,5 +293,5 @@ pub fn table_fits(t: Table) -> bool
     ensures { result ≡ table_fits t }
 {
     let mut cells = [0u64; 64];
-    checked(t, &mut cells)
+    checked(&t, &mut cells)
 }

@@ -8,8 +8,9 @@
 mod show;
 mod table_w;
 
-use std::io::Input;
-use std::{fmt, io};
+use std::alloc::Global;
+use std::fmt;
+use std::io::{Read, Write};
 use text::input;
 use text::input::InputError;
 
@@ -44,17 +45,19 @@ impl From<InputError> for ShowError {
     }
 }
 
-// The whole input is the datagram.
-fn show_datagram(rt: &(impl Input + Print + AllocGlobal)) -> Result<(), ShowError> {
-    let datagram = input::read_whole(rt.alloc(), rt.reader(), MOST)?;
+// Shows the datagram that is the whole of an input.
+fn show_datagram<S: Read + Drop, W: Write>(
+    alloc: Global,
+    source: S,
+    out: &mut W,
+) -> Result<(), ShowError> {
+    let datagram = input::read_whole(alloc, source, MOST)?;
     let answer = table_w::read_w(&datagram);
-    show::write_answer(&mut io::writer(rt), &answer, &table_w::table_w()).map_err(
-        |_| ShowError::Unwritten,
-    )
+    show::write_answer(out, &answer, &table_w::table_w()).map_err(|_| ShowError::Unwritten)
 }
 
 fn main(rt: HostRuntime) {
-    if let Err(why) = show_datagram(&rt) {
+    if let Err(why) = show_datagram(rt.alloc(), rt.stdin(), &mut rt.stdout()) {
         let _ = eprintln!(rt; "showw: {why}");
     }
 }

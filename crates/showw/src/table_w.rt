@@ -12,7 +12,7 @@ use payload::read::Reading;
 use payload::table::{Table, TypeRow};
 use wire::id::{MethodId, ServiceId};
 
-// The kinds of table W's rows.
+// The kinds of table W's rows. A type row has its kind as a number: one that is no kind gets verdict 1.
 const UINT16: u8 = 3;
 
 const UINT32: u8 = 4;

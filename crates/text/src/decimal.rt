@@ -11,10 +11,13 @@ use std::{fmt, str};
 // The most digits that a decimal may have, but for zeros in front.
 const MOST_DIGITS: usize = 18;
 
-// How far the last digit may stand behind the unit, and the first before it: no float is as small or as large.
+// The most that an exponent may be, and how far the last digit may stand behind the point: no float is as small as a digit there.
+const MOST_EXPONENT: u64 = 1000;
+
 const LEAST_POWER: i64 = -1000;
 
-const MOST_POWER: i64 = 309;
+// How many digits may stand before the point, zeros among them: no float has more.
+const MOST_BEFORE: i64 = 309;
 
 // The float32 and the float64, which holds each of the other.
 pub trait Float: Copy + PartialEq + FromStr<Err = ParseFloatError> + Into<f64> {
@@ -65,8 +68,11 @@ fn digits_of(text: &[u8]) -> Result<(usize, usize), DecimalError> {
     if 1 < points || text.len() == points {
         return Err(DecimalError::NotADecimal);
     }
-    let behind = text.iter().rev().take_while(|b| **b != b'.').count();
-    Ok((digits, behind * points))
+    let behind = text
+        .split(|b| *b == b'.')
+        .nth(1)
+        .map_or(0, |behind| behind.len());
+    Ok((digits, behind))
 }
 
 // The exponent that stands behind the digits.
@@ -78,7 +84,7 @@ fn exponent_of(text: &[u8]) -> Result<i64, DecimalError> {
         _ => return Err(DecimalError::NotADecimal),
     };
     let exponent = number::of_digits(digits, 10)?;
-    if 1000 < exponent {
+    if MOST_EXPONENT < exponent {
         return Err(DecimalError::TooFar);
     }
     let exponent = exponent as i64;
@@ -88,7 +94,7 @@ fn exponent_of(text: &[u8]) -> Result<i64, DecimalError> {
 // Whether a float can be as large and as small as digits, the last of which stands at a power of 10.
 fn is_near(digits: usize, power: i64) -> bool {
     digits == 0
-        || (LEAST_POWER <= power && power.saturating_add_unsigned(digits as u64) <= MOST_POWER)
+        || (LEAST_POWER <= power && power.saturating_add_unsigned(digits as u64) <= MOST_BEFORE)
 }
 
 // The bits of the float nearest to a decimal without a sign, half to even.

@@ -1,6 +1,6 @@
 // An input, read to its end.
 
-ghost use Rattle.std.specs.Prelude.{◌≡◌, ◌≤◌, ◌<◌, Err, IfErr, IfOk, IfSome, length, take, vec_len};
+ghost use Rattle.std.specs.Prelude.{◌≡◌, ◌≤◌, ◌<◌, Err, IfErr, IfOk, IfSome, OnErr, length, take, vec_len};
 ghost use Rattle.text.specs.declared.input.InputError.TheVariants.{Unread};
 
 use std::alloc::Global;
@@ -33,8 +33,10 @@ pub fn read_start<S: Read + Drop>(alloc: Global, source: S, most: usize) -> io::
 
 // An input that may have at most so many bytes.
 pub(crate) fn within(all: Vec<u8>, most: usize) -> Result<Vec<u8>, InputError>
-    ensures bound { IfOk result (λ whole. whole ≡ all × vec_len whole ≤ most) }
-    ensures too_long { IfErr result (λ e. e ≡ InputError.TooLong × most < vec_len all) }
+    ensures same { IfOk result (λ whole. whole ≡ all) }
+    ensures bound { IfOk result (λ whole. vec_len whole ≤ most) }
+    ensures err { IfErr result (λ why. why ≡ InputError.TooLong) }
+    ensures too_long { OnErr result (most < vec_len all) }
 {
     if most < all.len() {
         return Err(InputError::TooLong);

@@ -13,4 +13,6 @@ pub mod input;
 pub mod number;
 pub mod quote;
 pub mod say;
+#[cfg(test)]
+mod tests;
 pub mod word;

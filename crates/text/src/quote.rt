@@ -3,7 +3,8 @@
 // Printed as they are: characters from the blank on but quotation mark, backslash and delete; of more bytes, those that Unicode has but the
 // control characters. All other bytes are escaped: \" \\ \n \r \t, or \x and two hexadecimal digits.
 
-ghost use Rattle.std.specs.Prelude.{◌≡◌, ◌≤◌, ◌<◌, vec_len, length};
+ghost use Rattle.std.specs.Prelude.{◌≡◌, ◌≤◌, ◌<◌, length, max, vec_len};
+ghost use Rattle.std.specs.Io.{StartsWith};
 
 use std::alloc::AllocFailed;
 use std::io;
@@ -109,7 +110,10 @@ fn escape(text: &[u8]) -> Option<(u8, &[u8])>
 
 // Puts the text of a quotation, which begins with its mark, behind a content that may have at most so many bytes. Where there is none, the content
 // has a part of it.
-pub fn read(quotation: &[u8], content: &mut Vec<u8>, most: usize) -> Result<(), QuoteError> {
+pub fn read(quotation: &[u8], content: &mut Vec<u8>, most: usize) -> Result<(), QuoteError>
+    ensures bound { vec_len content.new ≤ max most (vec_len content.old) }
+    ensures kept { StartsWith content.new.items content.old.items }
+{
     let mut rest = quotation.get(1..).unwrap_or(&[]);
     while let Some((first, behind)) = rest.split_first() {
         if *first == b'"' {

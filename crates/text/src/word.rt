@@ -1,7 +1,7 @@
 // The words of a line. Blanks stand between words; a word that would begin with # begins a comment; one that begins with a quotation mark
 // ends with the next that no backslash stands before.
 
-ghost use Rattle.std.specs.Prelude.{◌≡◌, ◌≤◌, length};
+ghost use Rattle.std.specs.Prelude.{◌+◌, ◌<◌, ◌≤◌, IfSome, length};
 ghost use Rattle.std.specs.Iterator.{at_most};
 
 // What is left of a line. A copy can look ahead.
@@ -21,6 +21,8 @@ impl<'a> Iterator for Words<'a> {
     type Item = &'a [u8];
 
     ghost remaining = { λ s. at_most (length s.rest.now) };
+
+    ghost next_gives = { λ s r t. IfSome r (λ word. (0 < length word.now) × (length word.now + length t.rest.now ≤ length s.rest.now)) };
 
     fn next(&mut self) -> Option<&'a [u8]> {
         let start = self.rest.iter().position(|b| !is_blank(*b))?;

@@ -7,9 +7,9 @@ returns c =
     let a = c.args in
     let p =
     write_as a.types.now a.values.now a.content.now a.out.now a.header a.form _ _ _ c.write_by_value-w.result _ _
-    c.header_of-h.ensures
+    c.from-h.ensures
     c.rows_of-all.ensures
     c.table_of-t.ensures
     c.write_by_value-w.ensures
-    c.sent_of.ensures in
+    c.from.ensures in
     record { answer = p.0; output = p.1 }

@@ -10,7 +10,7 @@ use borrow.Author.Tests.{le-ltb}
 use Rattle.payload.specs.declared.table.TypeRow.{TypeRow}
 use Rattle.payload.specs.declared.row.Row.{Row}
 use Rattle.payload.specs.declared.row.Value.{Value}
-use Rattle.payload.specs.declared.judge.Judged.TheVariants.{Fine}
+use Rattle.payload.specs.Judging.{Fine}
 use Rattle.payload.specs.Row.{absent_row, is_absent}
 use Rattle.payload.specs.Judging.{outside, run_fits, row_fine, up_after, judged_from}
 use Rattle.payload.specs.Writing.{put_of, parts_of}

@@ -9,7 +9,7 @@ use lib.Seq.{length-take-le, get_or-append-add}
 use Rattle.payload.specs.declared.table.TypeRow.{TypeRow}
 use Rattle.payload.specs.declared.table.Table.{Table}
 use Rattle.payload.specs.declared.row.Row.{Row}
-use Rattle.payload.specs.declared.judge.Judged.TheVariants.{Fine}
+use Rattle.payload.specs.Judging.{Fine}
 use Rattle.payload.specs.Table.{type_rows}
 use Rattle.payload.specs.Row.{absent_row}
 use Rattle.payload.specs.Reading.{full, reading_of}

@@ -15,7 +15,7 @@ use Rattle.payload.specs.declared.table.TypeRow.{TypeRow}
 use Rattle.payload.specs.declared.row.Row.{Row}
 use Rattle.payload.specs.declared.row.Value.{Value}
 use Rattle.payload.specs.declared.row.Value.TheVariants.{Absent, Unsigned, Signed, Float32, Float64, Bytes, Members}
-use Rattle.payload.specs.declared.judge.Judged.TheVariants.{Fine, Outside, Unfit}
+use Rattle.payload.specs.Judging.{Fine, Outside, Unfit}
 use Rattle.payload.specs.Table.{row_fits, level_most, rows_fit, RowRules}
 use Rattle.payload.specs.Row.{is_absent}
 use Rattle.payload.specs.Judging.{outside, row_fine, is_members, up_after, judged_from}

@@ -4,18 +4,18 @@ use mathlib.Core.Path.{◌≡◌, refl, sym, ap, ◌∙◌}
 use Prim.Native.Nat.{ℕ, zero, suc, ◌+◌, ◌-◌, ◌*◌, ◌/◌, ◌%◌, ◌≤◌, ◌<◌}
 use native.Mathlib.Omega.{arith}
 use mathlib.Core.Bool.{Bool, true, false}
-use mathlib.Core.Option.{Option, none, some}
+use mathlib.Core.Option.{Option as Place, none, some}
+use Rattle.std.specs.Prelude.{Some, None, is_some, not}
 use mathlib.Core.List.{List, [], ◌∷◌}
-use lib.ListN.{length, drop, get_or}
-use lib.Seq.{drop-nil, get_or-drop}
+use lib.ListN.{length, take, drop, get_or, length-drop}
+use lib.Seq.{drop-nil, get_or-take, get_or-drop, take_all, length-take-le}
+use Rattle.std.proofs.lemmas.List.{length-take}
 use lib.Dec.{ltb, eqb}
-use borrow.Author.Tests.{lt-ltb, le-ltb, eq-eqb, eqb-true, eqb-false, ltb-true, ltb-false}
+use borrow.Author.Tests.{lt-ltb, le-ltb, eq-eqb, eqb-true, ltb-true, ltb-false}
 use Rattle.wire.specs.Choose.{pick, and}
 use Rattle.payload.specs.declared.table.TypeRow.{TypeRow}
-use Rattle.payload.specs.declared.table.Found.{Found}
-use Rattle.payload.specs.declared.table.Found.TheVariants.{At, Nothing}
 use Rattle.payload.specs.Table.{later, find, is_none, idents_differ}
-use Rattle.payload.specs.Cells.{bit_of, cell_of, ident_in, level_in, row_in, rows_in, table_in, FineRow, found_at, search_at, missed, Within, Stops}
+use Rattle.payload.specs.Cells.{bit_of, cell_of, ident_in, level_in, row_in, rows_in, table_in, FineRow, found_at, search_at, Stops}
 
 -- ---- the cell of a row
 
@@ -81,14 +81,14 @@ unfolding table_in
 table_length n cells = rows_length n 0 cells
 
 -- behind the row that was found
-later_at : (i : ℕ) (o : Option ℕ) → found_at i (later o) ≡ found_at (suc i) o
+later_at : (i : ℕ) (o : Place ℕ) → found_at i (later o) ≡ found_at (suc i) o
 unfolding later
 later_at i none = refl
-later_at i (some k) = let e : i + suc k ≡ suc i + k = omega arith in ap At e
+later_at i (some k) = let e : i + suc k ≡ suc i + k = omega arith in ap Some e
 
-pub missed_none : (i : ℕ) (o : Option ℕ) → missed (found_at i o) ≡ is_none o
-missed_none i none = refl
-missed_none i (some k) = refl
+none_found : (i : ℕ) (o : Place ℕ) → not (is_some (found_at i o)) ≡ is_none o
+none_found i none = refl
+none_found i (some k) = refl
 
 module _ (cells : List ℕ) (n i : ℕ) where
   pub rows_end : n ≤ i → drop i (table_in n cells) ≡ []
@@ -108,12 +108,12 @@ module _ (cells : List ℕ) (n i : ℕ) where
   -- ---- a search
 
   module _ (l x : ℕ) where
-    pub find_end : n ≤ i → found_at i (find l x (drop i (table_in n cells))) ≡ Nothing
+    pub find_end : n ≤ i → found_at i (find l x (drop i (table_in n cells))) ≡ None
     unfolding find
     find_end h = rw (rows_end h)
 
     module _ (h : i < n) (small : l < 16) where
-      pub find_this : get_or cells i 0 / 512 ≡ x * 16 + l → found_at i (find l x (drop i (table_in n cells))) ≡ At i
+      pub find_this : get_or cells i 0 / 512 ≡ x * 16 + l → found_at i (find l x (drop i (table_in n cells))) ≡ Some i
       unfolding find
       find_this e =
           let a : level_in (get_or cells i 0) ≡ l = omega arith in
@@ -121,7 +121,7 @@ module _ (cells : List ℕ) (n i : ℕ) where
           let z : i + 0 ≡ i = omega arith in
           rw (rows_here h, le-ltb (level_in (get_or cells i 0)) l (omega arith), eq-eqb (level_in (get_or cells i 0)) l a, eq-eqb (ident_in (get_or cells i 0)) x b, z)
 
-      pub find_above : level_in (get_or cells i 0) < l → found_at i (find l x (drop i (table_in n cells))) ≡ Nothing
+      pub find_above : level_in (get_or cells i 0) < l → found_at i (find l x (drop i (table_in n cells))) ≡ None
       unfolding find
       find_above e = rw (rows_here h, lt-ltb (level_in (get_or cells i 0)) l e)
 
@@ -138,85 +138,124 @@ module _ (cells : List ℕ) (n i : ℕ) where
           go true false ea eb = later_at i (find l x (drop (suc i) (table_in n cells)))
           go false b ea eb = later_at i (find l x (drop (suc i) (table_in n cells)))
 
-  -- ---- whether Data IDs differ, from row i on
+-- ---- a search over several rows
 
-  module _ (h : i < n) (l x : ℕ) (el : l ≡ level_in (get_or cells i 0)) (ex : x ≡ ident_in (get_or cells i 0))
-      (f : Found) (ef : f ≡ found_at (suc i) (find l x (drop (suc i) (table_in n cells)))) where
-    behind_none : missed f ≡ is_none (find (level_in (get_or cells i 0)) (ident_in (get_or cells i 0)) (drop (suc i) (table_in n cells)))
-    behind_none = rw (ef, ← el, ← ex) (missed_none (suc i) (find l x (drop (suc i) (table_in n cells))))
-
-    pub differ_stop : missed f ≡ false → idents_differ (drop i (table_in n cells)) ≡ false
-    unfolding idents_differ
-    differ_stop e = rw (rows_here h, sym behind_none ∙ e)
-
-    pub differ_next : missed f ≡ true → idents_differ (drop i (table_in n cells)) ≡ idents_differ (drop (suc i) (table_in n cells))
-    unfolding idents_differ
-    differ_next e = rw (rows_here h, sym behind_none ∙ e)
-
-  pub differ_end : n ≤ i → idents_differ (drop i (table_in n cells)) ≡ true
-  unfolding idents_differ
-  differ_end h = rw (rows_end h)
-
--- ---- a search of a level's rows
-
--- one row more is not above the level
-pub deep_more : (cells : List ℕ) (l first i : ℕ) → ((j : ℕ) → first ≤ j → j < i → l ≤ level_in (get_or cells j 0)) → l ≤ level_in (get_or cells i 0)
-    → (j : ℕ) → first ≤ j → j < i + 1 → l ≤ level_in (get_or cells j 0)
-deep_more cells l first i deep here j a b = go (ltb j i) refl
+-- rows that do not have the key are passed
+pub search_skips : (cells : List ℕ) (n l x : ℕ) → l < 16 → (m i : ℕ) → i + m ≤ n → ((k : ℕ) → k < m → get_or cells (i + k) 0 / 512 ≡ x * 16 + l → ⊥)
+    → ((k : ℕ) → k < m → l ≤ level_in (get_or cells (i + k) 0)) → search_at n cells l x i ≡ search_at n cells l x (i + m)
+search_skips cells n l x small zero i h ne deep = let z : i + 0 ≡ i = omega arith in rw z
+search_skips cells n l x small (suc m) i h ne deep =
+    let z : suc i + m ≡ i + suc m = omega arith in
+    find_next cells n i l x (omega arith) small (rw z0 at (ne 0 (omega arith))) (rw z0 at (deep 0 (omega arith)))
+    ∙ search_skips cells n l x small m (suc i) (omega arith) (λ k b. rw (next k) (ne (suc k) (omega arith))) (λ k b. rw (next k) (deep (suc k) (omega arith)))
+    ∙ ap (search_at n cells l x) z
   where
-    go : (t : Bool) → ltb j i ≡ t → l ≤ level_in (get_or cells j 0)
-    go true e = deep j a (ltb-true j i e)
-    go false e = let z : j ≡ i = omega (arith, ltb-false j i e) in rw z here
+    z0 : i + 0 ≡ i
+    z0 = omega arith
 
--- one row after another does not have the key
-module _ (cells : List ℕ) (n l x key at : ℕ) (small : l < 16) (e : key ≡ x * 16 + l) (h : at + 4 ≤ n)
-    (deep : (i : ℕ) → at ≤ i → i < at + 4 → l ≤ level_in (get_or cells i 0)) where
-  pub key_first : (get_or cells at 0 / 512 ≡ key → ⊥) → search_at n cells l x at ≡ search_at n cells l x (at + 1)
-  key_first ne =
-      let z : suc at ≡ at + 1 = omega arith in
-      find_next cells n at l x (omega arith) small (λ d. ne (d ∙ sym e)) (deep at (omega arith) (omega arith)) ∙ ap (search_at n cells l x) z
+    next : (k : ℕ) → suc i + k ≡ i + suc k
+    next k = omega arith
 
-  pub key_next : (k : ℕ) → k < 4 → (get_or cells (at + k) 0 / 512 ≡ key → ⊥) → search_at n cells l x (at + k) ≡ search_at n cells l x (at + suc k)
-  key_next k few ne =
-      let z : suc (at + k) ≡ at + suc k = omega arith in
-      find_next cells n (at + k) l x (omega arith) small (λ d. ne (d ∙ sym e)) (deep (at + k) (omega arith) (omega arith)) ∙ ap (search_at n cells l x) z
+-- where a level's rows stop nothing is found
+pub search_stops : (cells : List ℕ) (first stop n l x : ℕ) → l < 16 → Stops cells first stop n l → search_at n cells l x stop ≡ None
+search_stops cells first stop n l x small s = go (ltb stop n) refl
+  where
+    go : (b : Bool) → ltb stop n ≡ b → search_at n cells l x stop ≡ None
+    go true e = find_above cells n stop l x (ltb-true stop n e) small (s.shut (ltb-true stop n e))
+    go false e = find_end cells n stop l x (ltb-false stop n e)
 
--- the rows of a level are enough
-module _ (cells : List ℕ) (stop count l x : ℕ) (small : l < 16) (to : stop ≤ count) (shut : stop < count → level_in (get_or cells stop 0) < l) where
-  at_stop : search_at stop cells l x stop ≡ search_at count cells l x stop
-  at_stop = find_end cells stop stop l x (omega arith) ∙ sym (go (ltb stop count) refl)
-    where
-      go : (b : Bool) → ltb stop count ≡ b → search_at count cells l x stop ≡ Nothing
-      go true e = find_above cells count stop l x (ltb-true stop count e) small (shut (ltb-true stop count e))
-      go false e = find_end cells count stop l x (ltb-false stop count e)
+-- ---- parts of the cells
 
-  rows_enough : (k first : ℕ) → first + k ≡ stop → ((i : ℕ) → first ≤ i → i < stop → l ≤ level_in (get_or cells i 0))
-      → search_at stop cells l x first ≡ search_at count cells l x first
-  rows_enough zero first e deep = let z : first ≡ stop = omega arith in rw z at_stop
-  rows_enough (suc k) first e deep =
-      go (eqb (get_or cells first 0 / 512) (x * 16 + l)) refl (rows_enough k (suc first) (omega arith) (λ i a b. deep i (omega arith) b))
-    where
-      go : (b : Bool) → eqb (get_or cells first 0 / 512) (x * 16 + l) ≡ b → search_at stop cells l x (suc first) ≡ search_at count cells l x (suc first)
-          → search_at stop cells l x first ≡ search_at count cells l x first
-      go true d later =
-          let hit = eqb-true (get_or cells first 0 / 512) (x * 16 + l) d in
-          find_this cells stop first l x (omega arith) small hit ∙ sym (find_this cells count first l x (omega arith) small hit)
-      go false d later =
-          let ne = eqb-false (get_or cells first 0 / 512) (x * 16 + l) d in
-          let lev = deep first (omega arith) (omega arith) in
-          find_next cells stop first l x (omega arith) small ne lev
-          ∙ later
-          ∙ sym (find_next cells count first l x (omega arith) small ne lev)
+-- a cell of a part
+pub part_cell : (cells : List ℕ) (a m k : ℕ) → k < m → get_or (take m (drop a cells)) k 0 ≡ get_or cells (a + k) 0
+part_cell cells a m k h = get_or-take m (drop a cells) k 0 h ∙ get_or-drop a cells k 0
 
-module _ (cells : List ℕ) (first stop count l x : ℕ) (small : l < 16) (s : Stops cells first stop count l) where
-  pub level_search : (f : Found) → f ≡ search_at stop cells l x first → f ≡ search_at count cells l x first
-  level_search f e = e ∙ rows_enough cells stop count l x small s.to s.shut (stop - first) first (omega (arith, s.from)) s.deep
+-- a search of a part
+module _ (cells : List ℕ) (n l x key at q : ℕ) (small : l < 16) (e : key ≡ x * 16 + l) (h : at + q ≤ n)
+    (deep : (i : ℕ) → at ≤ i → i < at + q → l ≤ level_in (get_or cells i 0)) where
+  pub part_miss : at + q ≤ length cells → ((k : ℕ) → k < length (take q (drop at cells)) → get_or (take q (drop at cells)) k 0 / 512 ≡ key → ⊥)
+      → search_at n cells l x at ≡ search_at n cells l x (at + q)
+  part_miss room ne =
+      let long : length (take q (drop at cells)) ≡ q = length-take-le q (drop at cells) (simp length-drop (omega arith)) in
+      search_skips cells n l x small q at h (λ k b d. ne k (omega arith) (rw (part_cell cells at q k b) (d ∙ sym e))) (λ k b. deep (at + k) (omega arith) (omega arith))
 
-  pub level_within : (f : Found) → Within cells first stop l f → Within cells first count l f
-  level_within (At i) w = (w.0, omega (arith, w.1, s.to), w.2)
-  level_within Nothing w = tt
+  pub part_hit : (i : ℕ) → i < length (take q (drop at cells)) → get_or (take q (drop at cells)) i 0 / 512 ≡ key
+      → ((k : ℕ) → k < i → get_or (take q (drop at cells)) k 0 / 512 ≡ key → ⊥) → search_at n cells l x at ≡ Some (at + i)
+  part_hit i b hit ne =
+      let short = length-take q (drop at cells) in
+      search_skips cells n l x small i at (omega arith) (λ k p d. ne k p (rw (part_cell cells at q k (omega arith)) (d ∙ sym e))) (λ k p. deep (at + k) (omega arith) (omega arith))
+      ∙ find_this cells n (at + i) l x (omega arith) small (rw (part_cell cells at q i (omega arith)) at hit ∙ e)
 
--- what is found from a later row on
-pub within_later : (cells : List ℕ) (first i stop l : ℕ) → first ≤ i → (f : Found) → Within cells i stop l f → Within cells first stop l f
-within_later cells first i stop l h (At k) w = (omega (arith, w.0), w.1, w.2)
-within_later cells first i stop l h Nothing w = tt
+rows_first : (k j n : ℕ) (cells : List ℕ) → j + k ≤ n → rows_in k j (take n cells) ≡ rows_in k j cells
+unfolding rows_in
+rows_first zero j n cells h = refl
+rows_first (suc k) j n cells h = rw (get_or-take n cells j 0 (omega arith), rows_first k (suc j) n cells (omega arith))
+
+-- the rows of the first n cells
+pub table_first : (n : ℕ) (cells : List ℕ) → table_in n (take n cells) ≡ table_in n cells
+unfolding table_in
+table_first n cells = rows_first n 0 n cells (omega arith)
+
+rows_shift : (k i j : ℕ) (cells : List ℕ) → rows_in k j (drop i cells) ≡ rows_in k (i + j) cells
+unfolding rows_in
+rows_shift zero i j cells = refl
+rows_shift (suc k) i j cells =
+    let e : i + suc j ≡ suc (i + j) = omega arith in
+    rw (get_or-drop i cells j 0, rows_shift k i (suc j) cells, e)
+
+rows_behind : (n j i : ℕ) (cells : List ℕ) → drop i (rows_in n j cells) ≡ rows_in (n - i) (j + i) cells
+unfolding rows_in
+rows_behind zero j i cells = let e : 0 - i ≡ 0 = omega arith in rw e (drop-nil i)
+rows_behind (suc n) j zero cells =
+    let e : j + 0 ≡ j = omega arith in
+    let d : suc n - 0 ≡ suc n = omega arith in
+    rw (e, d)
+rows_behind (suc n) j (suc i) cells =
+    let e : suc n - suc i ≡ n - i = omega arith in
+    let d : j + suc i ≡ suc j + i = omega arith in
+    rw (e, d) (rows_behind n (suc j) i cells)
+
+-- the rows of the cells from an index on
+pub table_behind : (n i : ℕ) (cells : List ℕ) → table_in (n - i) (drop i cells) ≡ drop i (table_in n cells)
+unfolding table_in
+table_behind n i cells =
+    let a : i + 0 ≡ i = omega arith in
+    let b : 0 + i ≡ i = omega arith in
+    rows_shift (n - i) i 0 cells ∙ ap (λ (k : ℕ). rows_in (n - i) k cells) (a ∙ sym b) ∙ sym (rows_behind n 0 i cells)
+
+-- ---- whether Data IDs differ, from row i on
+
+module _ (cells : List ℕ) (i : ℕ) where
+  abbrev pub rows_after : List TypeRow
+  rows_after = drop i (table_in (length cells) cells)
+
+  -- the cells behind it
+  abbrev pub behind : List ℕ
+  behind = take (length cells - (i + 1)) (drop (i + 1) cells)
+
+  behind_is : behind ≡ drop (suc i) cells
+  behind_is = let z : i + 1 ≡ suc i = omega arith in rw z (take_all (length cells - suc i) (drop (suc i) cells) (simp length-drop (omega arith)))
+
+  module _ (h : i < length cells) (again : Bool)
+      (e : again ≡ is_some (search_at (length behind) behind (level_in (get_or cells i 0)) (ident_in (get_or cells i 0)) 0)) where
+    behind_none : not again ≡ is_none (find (level_in (get_or cells i 0)) (ident_in (get_or cells i 0)) (drop (suc i) (table_in (length cells) cells)))
+    behind_none =
+        rw (
+          e,
+          behind_is,
+          none_found 0 (find (level_in (get_or cells i 0)) (ident_in (get_or cells i 0)) (table_in (length (drop (suc i) cells)) (drop (suc i) cells))),
+          length-drop (suc i) cells,
+          table_behind (length cells) (suc i) cells,
+        )
+
+    pub differ_stop : again ≡ true → idents_differ rows_after ≡ false
+    unfolding idents_differ
+    differ_stop a = rw (rows_here cells (length cells) i h, sym behind_none ∙ ap not a)
+
+    pub differ_next : again ≡ false → idents_differ rows_after ≡ idents_differ (drop (suc i) (table_in (length cells) cells))
+    unfolding idents_differ
+    differ_next a = rw (rows_here cells (length cells) i h, sym behind_none ∙ ap not a)
+
+  pub differ_end : length cells ≤ i → idents_differ rows_after ≡ true
+  unfolding idents_differ
+  differ_end h = rw (rows_end cells (length cells) i h)

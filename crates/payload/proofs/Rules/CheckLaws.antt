@@ -6,17 +6,17 @@ use native.Mathlib.Omega.{arith}
 use native.Mathlib.Numerals.{add-one}
 use mathlib.Core.Bool.{Bool, true, false}
 use mathlib.Core.List.{List, [], ◌∷◌}
-use lib.ListN.{length, get_or, set, length-set}
-use lib.Seq.{slice, slice_empty, slice-cons, get_or-set_same, get_or-set_other}
+use lib.ListN.{length, take, get_or, set, length-set}
+use lib.Seq.{slice, slice_empty, slice-cons, get_or-take, length-take-le, get_or-set_same, get_or-set_other}
 use lib.Dec.{leb, eqb}
 use borrow.Author.Tests.{eqb-true, eqb-false}
 use Rattle.wire.specs.Choose.{and}
 use Rattle.payload.specs.declared.table.TypeRow.{TypeRow}
 use Rattle.payload.specs.declared.table.Table.{Table}
 use Rattle.payload.specs.Table.{in_range, row_fits, level_most, rows_fit, idents_differ, type_rows, width_fits, table_fits, no_row, row_at, RowRules}
-use Rattle.payload.specs.Cells.{cell_of, row_in, rows_in, table_in, FineTable, Checked}
+use Rattle.payload.specs.Cells.{cell_of, level_in, row_in, rows_in, table_in, FineTable, SoundTable, Filled, Checked}
 use Rattle.payload.proofs.Joined.{clash, and_left, and_right, refuted}
-use Rattle.payload.proofs.Rules.CellLaws.{cell_row}
+use Rattle.payload.proofs.Rules.CellLaws.{cell_row, row_at_lem, table_length, table_first}
 use Rattle.payload.proofs.Rules.RowLaws.{range_in, in_range_lem, fits_rules, fine_row, most_in, width_small}
 use Rattle.payload.proofs.Rules.Rising.{marked, ascends, marked_long, ascends_differ}
 
@@ -168,3 +168,44 @@ module _ (t : Table) (all : length t.rows ≡ 64) (starts : List ℕ) (i most : 
       -- Data IDs that rose differ
       pub answer_rising : length starts ≡ 6 → rising ≡ true → Checked t cells true
       answer_rising w r = answer_differ true (sym (ap idents_differ all_rows ∙ ascends_differ 1 starts (type_rows t) all_fit w (all_risen r)))
+
+-- ---- the cells that count
+
+first_long : (n : ℕ) (cells : List ℕ) → length cells ≡ 64 → n ≤ 64 → length (take n cells) ≡ n
+first_long n cells a h = length-take-le n cells (omega arith)
+
+pub first_table : (n : ℕ) (cells : List ℕ) → length cells ≡ 64 → n ≤ 64 → table_in (length (take n cells)) (take n cells) ≡ table_in n cells
+first_table n cells a h = rw (first_long n cells a h) (table_first n cells)
+
+pub first_fine : (n : ℕ) (cells : List ℕ) → length cells ≡ 64 → FineTable n cells → FineTable (length (take n cells)) (take n cells)
+first_fine n cells a f =
+    rw (first_long n cells a f.few)
+    (record {
+      few = f.few;
+      each = λ i h. rw (get_or-take n cells i 0 h) (f.each i h);
+    })
+
+-- ---- what every checked table keeps
+
+first_level : (rs : List TypeRow) → rows_fit 1 rs ≡ true → 0 < length rs → (get_or rs 0 no_row).level ≤ 1
+unfolding rows_fit
+first_level [] e h = absurd (omega arith)
+first_level (r ∷ rs) e h = (fits_rules r 1 (and_left (row_fits 1 r) (rows_fit (level_most r) rs) e)).1
+
+pub sound : (t : Table) (cells : List ℕ) → Checked t cells true → SoundTable cells t.count t.width
+sound t cells k = record { fine = f.fine; some = f.count_some; first = first; width_in = f.width_in; width_is = tests.width }
+  where
+    f : Filled t cells
+    f = k.filled refl
+
+    tests : Tests t
+    tests = fits_tests t (sym k.answer)
+
+    first : level_in (get_or cells 0 0) ≡ 1
+    first =
+        let same : (get_or (table_in t.count cells) 0 no_row).level ≡ level_in (get_or cells 0 0) =
+        ap (λ (r : TypeRow). r.level) (row_at_lem cells t.count 0 no_row f.count_some) in
+        let few : (get_or (table_in t.count cells) 0 no_row).level ≤ 1 =
+        first_level (table_in t.count cells) (rw f.rows_are tests.rows) (rw (table_length t.count cells) f.count_some) in
+        let least = (f.fine.each 0 f.count_some).level_some in
+        omega arith

@@ -1,17 +1,17 @@
 -- The test of a row and the rules of a row say the same.
 -- Assumes nothing.
-use mathlib.Core.Path.{◌≡◌, refl, sym, ap, ◌∙◌}
-use Prim.Native.Nat.{ℕ, suc, ◌≤◌, ◌<◌, suc-le-suc}
+use mathlib.Core.Path.{◌≡◌, refl, sym, ◌∙◌}
+use Prim.Native.Nat.{ℕ, suc, ◌≤◌, ◌<◌}
 use native.Mathlib.Omega.{arith}
 use mathlib.Core.Bool.{Bool, true, false}
 use lib.Dec.{leb, eqb}
-use borrow.Author.Tests.{eq-eqb, ne_eqb, le-leb, lt-leb, leb-true, leb-false, eqb-true, eqb-false}
+use borrow.Author.Tests.{eq-eqb, le-leb, leb-true, eqb-true, eqb-false}
 use Rattle.wire.specs.Choose.{pick, and}
 use Rattle.wire.specs.Kind.{array, struct}
 use Rattle.payload.specs.declared.table.TypeRow.{TypeRow}
 use Rattle.payload.specs.Table.{in_range, elem_fits, struct_fits, row_fits, level_most, width_fits, RowRules}
 use Rattle.payload.specs.Cells.{FineRow}
-use Rattle.payload.proofs.Joined.{and_left, and_right, and_both, refuted}
+use Rattle.payload.proofs.Joined.{and_left, and_right, and_both}
 
 pub range_in : (a b x : ℕ) → in_range a b x ≡ true → (a ≤ x) × (x ≤ b)
 range_in a b x e = (leb-true a x (and_left (leb a x) (leb x b) e), leb-true x b (and_right (leb a x) (leb x b) e))
@@ -80,40 +80,6 @@ module _ (r : TypeRow) where
     rules_fit k h =
         sym (row_elem k.level_least k.level_most_lem h k.ident_most k.kind_least k.kind_most)
         ∙ and_both (elem_fits r) (struct_fits r) (elem_keeps k) (struct_keeps k)
-
-    -- a row that breaks a rule does not fit
-    pub row_breaks : (RowRules r → r.level ≤ most → ⊥) → false ≡ row_fits most r
-    row_breaks h = sym (refuted (row_fits most r) (λ e. let d = fits_rules e in h d.0 d.1))
-
-  -- ---- the element kind, test by test
-
-  elem_array : r.kind ≡ array → in_range 1 11 r.elem ≡ and (elem_fits r) (struct_fits r)
-  elem_array k =
-      let ne : r.kind ≡ struct → ⊥ = λ d. omega arith in
-      rw (eq-eqb r.kind array k, ne_eqb r.kind struct ne) (go (in_range 1 11 r.elem))
-    where
-      go : (b : Bool) → b ≡ and b true
-      go true = refl
-      go false = refl
-
-  pub elem_lacks : r.kind ≡ array → r.elem ≡ 0 → false ≡ and (elem_fits r) (struct_fits r)
-  elem_lacks k h = sym (ap (λ (b : Bool). and b (leb r.elem 11)) (lt-leb 1 r.elem (omega arith))) ∙ elem_array k
-
-  pub elem_has : r.kind ≡ array → (r.elem ≡ 0 → ⊥) → leb r.elem 11 ≡ and (elem_fits r) (struct_fits r)
-  elem_has k h = sym (ap (λ (b : Bool). and b (leb r.elem 11)) (le-leb 1 r.elem (omega arith))) ∙ elem_array k
-
-  module _ (other : r.kind ≡ array → ⊥) where
-    pub elem_wrong : (r.elem ≡ 0 → ⊥) → false ≡ and (elem_fits r) (struct_fits r)
-    elem_wrong h = rw (ne_eqb r.kind array other, ne_eqb r.elem 0 h)
-
-    -- a struct stands at level 1 to 3 where the level behind it is at most 4
-    pub elem_next : r.level ≤ 4 → r.elem ≡ 0 → (m : ℕ) → m ≡ level_most r → leb m 4 ≡ and (elem_fits r) (struct_fits r)
-    elem_next h e m q = rw (ne_eqb r.kind array other, eq-eqb r.elem 0 e, q) (go (eqb r.kind struct) (leb r.level 3) refl)
-      where
-        go : (b c : Bool) → leb r.level 3 ≡ c → leb (pick b (suc r.level) r.level) 4 ≡ pick b (leb r.level 3) true
-        go true true d = rw d (le-leb (suc r.level) 4 (suc-le-suc (leb-true r.level 3 d)))
-        go true false d = rw d (lt-leb (suc r.level) 4 (suc-le-suc (leb-false r.level 3 d)))
-        go false c d = le-leb r.level 4 h
 
   -- ---- what the code needs of a row
 

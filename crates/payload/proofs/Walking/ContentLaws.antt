@@ -1,5 +1,6 @@
 -- The content behind a tag, by the tests that the code makes.
 -- Assumes nothing.
+use Rattle.std.specs.Prelude.{Ok, Err}
 use mathlib.Core.Path.{◌≡◌, ◌∙◌}
 use Prim.Native.Nat.{ℕ, ◌+◌, ◌-◌, ◌≤◌, ◌<◌}
 use native.Mathlib.Omega.{arith}
@@ -7,86 +8,53 @@ use mathlib.Core.Bool.{Bool, true, false}
 use mathlib.Core.List.{List}
 use lib.ListN.{length, take, drop}
 use lib.Seq.{slice, length-slice}
-use lib.Dec.{leb, eqb}
+use lib.Dec.{leb}
 use borrow.Author.Tests.{lt-ltb, le-ltb, lt-leb, le-leb}
 use Rattle.wire.specs.Choose.{pick}
 use Rattle.wire.specs.Number.{big, number_of}
 use Rattle.wire.specs.Tag.{fixed_size, field_width}
 use Rattle.wire.specs.declared.verdict.Verdict.TheVariants.{FieldCut, Overrun}
-use Rattle.payload.specs.declared.member.Content.{Content}
-use Rattle.payload.specs.declared.member.Content.TheVariants.{In, Cut}
 use Rattle.payload.specs.Reading.{cut, content, content_of, lengthed_of, body_of}
-use Rattle.payload.specs.Walking.{body_in, Inside}
+use Rattle.payload.specs.Walking.{body_in}
 use Rattle.payload.proofs.Walking.Slices.{part_take, part_drop}
 
--- a length field has at most four bytes
-pub field_few : (width wire : ℕ) → width ≤ 4 → field_width width wire ≤ 4
-field_few width wire h = go (eqb wire 4) (eqb wire 5) (eqb wire 6)
-  where
-    go : (a b c : Bool) → pick a width (pick b 1 (pick c 2 4)) ≤ 4
-    go true b c = h
-    go false true c = omega arith
-    go false false true = omega arith
-    go false false false = omega arith
+module _ (p : List ℕ) (at end : ℕ) (l : end ≤ length p) where
+  -- ---- so many bytes at a place
 
-module _ (p : List ℕ) (width wire at end : ℕ) (h : at ≤ end) (l : end ≤ length p) where
-  -- what is read at a place is the body there, and lies behind it
-  abbrev Is : Content → Type 0
-  Is r = (body_in p end r ≡ body_of width wire at (slice at end p)) × Inside at end r
+  module _ (n : ℕ) where
+    pub taken_cut : end - at < n → body_in p end (Err (record { verdict = Overrun; place = at })) ≡ content_of n at (slice at end p)
+    unfolding content_of
+    taken_cut k = rw (length-slice at end p l, lt-leb n (end - at) k)
 
-  module _ (n : ℕ) (few : wire < 4) (e : n ≡ fixed_size wire) where
-    pub fixed_cut : end - at < n → Is (Cut Overrun at)
-    unfolding body_of content_of
-    fixed_cut k = (rw (lt-ltb wire 4 few, ← e, length-slice at end p l, lt-leb n (end - at) k), tt)
+    pub taken_in : at ≤ end → n ≤ end - at → body_in p end (Ok (record { from = at; end = at + n })) ≡ content_of n at (slice at end p)
+    unfolding content_of
+    taken_in h k = rw (length-slice at end p l, le-leb n (end - at) k, part_take p at end n (omega arith), part_drop p at end n)
 
-    pub fixed_in : n ≤ end - at → Is (In (record { from = at; end = at + n }))
-    unfolding body_of content_of
-    fixed_in k = (
-      rw (lt-ltb wire 4 few, ← e, length-slice at end p l, le-leb n (end - at) k, part_take p at end n (omega arith), part_drop p at end n),
-      (omega arith, omega arith, omega arith),
-    )
+  -- ---- a body by its tag
 
-  module _ (w : ℕ) (many : 4 ≤ wire) (e : w ≡ field_width width wire) where
-    pub field_cut : end - at < w → Is (Cut FieldCut at)
-    unfolding body_of lengthed_of
-    field_cut k = (rw (le-ltb wire 4 many, ← e, length-slice at end p l, lt-leb w (end - at) k), tt)
+  module _ (width wire : ℕ) where
+    pub fixed_body : wire < 4 → (n : ℕ) → n ≡ fixed_size wire → content_of n at (slice at end p) ≡ body_of width wire at (slice at end p)
+    unfolding body_of
+    fixed_body few n e = rw (lt-ltb wire 4 few, e)
 
-    module _ (n : ℕ) (d : n ≡ number_of big (slice at (at + w) p)) (k : w ≤ end - at) where
-      pub lengthed_cut : end - (at + w) < n → Is (Cut Overrun (at + w))
-      unfolding body_of lengthed_of content_of
-      lengthed_cut m = (
-        rw (
-          le-ltb wire 4 many,
-          ← e,
-          length-slice at end p l,
-          le-leb w (end - at) k,
-          part_take p at end w (omega arith),
-          ← d,
-          part_drop p at end w,
-          length-slice (at + w) end p l,
-          lt-leb n (end - (at + w)) m,
-        ),
-        tt,
-      )
+    module _ (many : 4 ≤ wire) (w : ℕ) (e : w ≡ field_width width wire) where
+      pub field_cut : end - at < w → body_in p end (Err (record { verdict = FieldCut; place = at })) ≡ body_of width wire at (slice at end p)
+      unfolding body_of lengthed_of
+      field_cut k = rw (le-ltb wire 4 many, ← e, length-slice at end p l, lt-leb w (end - at) k)
 
-      pub lengthed_in : n ≤ end - (at + w) → Is (In (record { from = at + w; end = at + w + n }))
-      unfolding body_of lengthed_of content_of
-      lengthed_in m = (
-        rw (
-          le-ltb wire 4 many,
-          ← e,
-          length-slice at end p l,
-          le-leb w (end - at) k,
-          part_take p at end w (omega arith),
-          ← d,
-          part_drop p at end w,
-          length-slice (at + w) end p l,
-          le-leb n (end - (at + w)) m,
-          part_take p (at + w) end n (omega arith),
-          part_drop p (at + w) end n,
-        ),
-        (omega arith, omega arith, omega arith),
-      )
+      pub lengthed_body : (n : ℕ) → n ≡ number_of big (slice at (at + w) p) → at ≤ end → w ≤ end - at
+          → content_of n (at + w) (slice (at + w) end p) ≡ body_of width wire at (slice at end p)
+      unfolding body_of lengthed_of
+      lengthed_body n d h k =
+          rw (
+            le-ltb wire 4 many,
+            ← e,
+            length-slice at end p l,
+            le-leb w (end - at) k,
+            part_take p at end w (omega arith),
+            ← d,
+            part_drop p at end w,
+          )
 
 -- a number's content has the bytes of its wire type
 pub fixed_sized : (width wire at : ℕ) (bytes : List ℕ) → wire < 4 → (a : ℕ) (x : List ℕ) (e : ℕ) (y : List ℕ) → content a x e y ≡ body_of width wire at bytes

@@ -5,23 +5,21 @@ use Prim.Native.Nat.{ℕ, suc, ◌≤◌, ◌<◌}
 use native.Mathlib.Omega.{arith}
 use mathlib.Core.Bool.{Bool, true, false}
 use mathlib.Core.List.{List, ◌∷◌}
-use lib.ListN.{drop, get_or}
-use lib.Seq.{drop-cons}
+use lib.ListN.{length, take, drop, get_or}
+use lib.Seq.{drop-cons, get_or-take, length-take-le}
 use lib.Dec.{ltb, eqb}
 use borrow.Author.Tests.{lt-ltb, le-ltb, eq-eqb, eqb-true, ltb-true, ltb-false}
 use Rattle.wire.specs.Choose.{and, or}
-use Rattle.payload.specs.declared.table.TypeRow.{TypeRow}
-use Rattle.payload.specs.Cells.{level_in, kind_in, required_in, table_in}
-use Rattle.payload.specs.Row.{absent_row}
+use Rattle.payload.specs.declared.row.Row.{Row}
+use Rattle.payload.specs.Cells.{level_in, required_in, table_in}
+use Rattle.payload.specs.Row.{absent_row, is_absent}
 use Rattle.payload.specs.Reading.{lacks}
-use Rattle.payload.specs.Walking.{kept_row, kept}
-use Rattle.payload.proofs.Rules.CellLaws.{rows_end, rows_here, row_at_lem, table_length}
-use Rattle.payload.proofs.Walking.KeptLaws.{kept_absent, kept_at, length_kept}
+use Rattle.payload.proofs.Rules.CellLaws.{rows_end, rows_here}
 
-module _ (cells marks : List ℕ) (n l : ℕ) (words : List ℕ) where
+module _ (cells : List ℕ) (rows : List Row) (n l : ℕ) (long : n ≤ length rows) where
   -- from row i on a required row of the level is missing
   abbrev pub lacks_at : ℕ → Bool
-  lacks_at i = lacks l (drop i (table_in n cells)) (drop i (kept (table_in n cells) words marks))
+  lacks_at i = lacks l (drop i (table_in n cells)) (drop i (take n rows))
 
   module _ (i : ℕ) where
     lacks_end : n ≤ i → lacks_at i ≡ false
@@ -32,20 +30,17 @@ module _ (cells marks : List ℕ) (n l : ℕ) (words : List ℕ) where
       abbrev cell : ℕ
       cell = get_or cells i 0
 
-      row_here : drop i (kept (table_in n cells) words marks)
-          ≡ kept_row (kind_in cell) (get_or words i 0) (get_or marks i 0) ∷ drop (suc i) (kept (table_in n cells) words marks)
+      row_here : drop i (take n rows) ≡ get_or rows i absent_row ∷ drop (suc i) (take n rows)
       row_here =
-          let e = table_length n cells in
-          drop-cons (kept (table_in n cells) words marks) i absent_row (omega (arith, length_kept words marks (table_in n cells)))
-          ∙ ap (◌∷ drop (suc i) (kept (table_in n cells) words marks))
-          (kept_at words marks (table_in n cells) i (omega arith)
-          ∙ ap (λ (t : TypeRow). kept_row t.kind (get_or words i 0) (get_or marks i 0)) (row_at_lem cells n i _ h))
+          let k = length-take-le n rows long in
+          drop-cons (take n rows) i absent_row (omega arith)
+          ∙ ap (◌∷ drop (suc i) (take n rows)) (get_or-take n rows i absent_row h)
 
       lacks_above : level_in cell < l → lacks_at i ≡ false
       unfolding lacks
       lacks_above e = rw (rows_here cells n i h, row_here, lt-ltb (level_in cell) l e)
 
-      pub lacks_this : level_in cell ≡ l → required_in cell ≡ true → get_or marks i 0 ≡ 0 → lacks_at i ≡ true
+      pub lacks_this : level_in cell ≡ l → required_in cell ≡ true → is_absent (get_or rows i absent_row) ≡ true → lacks_at i ≡ true
       unfolding lacks
       lacks_this e r z =
           rw (
@@ -54,24 +49,23 @@ module _ (cells marks : List ℕ) (n l : ℕ) (words : List ℕ) where
             le-ltb (level_in cell) l (omega arith),
             eq-eqb (level_in cell) l e,
             r,
-            kept_absent (kind_in cell) (get_or words i 0) (get_or marks i 0),
-            eq-eqb (get_or marks i 0) 0 z,
+            z,
           )
 
-      pub lacks_next : l ≤ level_in cell → (level_in cell ≡ l → required_in cell ≡ true → get_or marks i 0 ≡ 0 → ⊥) → lacks_at i ≡ lacks_at (suc i)
+      pub lacks_next : l ≤ level_in cell → (level_in cell ≡ l → required_in cell ≡ true → is_absent (get_or rows i absent_row) ≡ true → ⊥)
+          → lacks_at i ≡ lacks_at (suc i)
       unfolding lacks
       lacks_next e ne =
           rw (
             rows_here cells n i h,
             row_here,
             le-ltb (level_in cell) l e,
-            kept_absent (kind_in cell) (get_or words i 0) (get_or marks i 0),
           )
-          (go (eqb (level_in cell) l) (required_in cell) (eqb (get_or marks i 0) 0) refl refl refl)
+          (go (eqb (level_in cell) l) (required_in cell) (is_absent (get_or rows i absent_row)) refl refl refl)
         where
-          go : (a b d : Bool) → eqb (level_in cell) l ≡ a → required_in cell ≡ b → eqb (get_or marks i 0) 0 ≡ d
+          go : (a b d : Bool) → eqb (level_in cell) l ≡ a → required_in cell ≡ b → is_absent (get_or rows i absent_row) ≡ d
               → or (and a (and b d)) (lacks_at (suc i)) ≡ lacks_at (suc i)
-          go true true true ea eb ed = absurd (ne (eqb-true (level_in cell) l ea) eb (eqb-true (get_or marks i 0) 0 ed))
+          go true true true ea eb ed = absurd (ne (eqb-true (level_in cell) l ea) eb ed)
           go true true false ea eb ed = refl
           go true false d ea eb ed = refl
           go false b d ea eb ed = refl

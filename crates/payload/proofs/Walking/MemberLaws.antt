@@ -1,258 +1,229 @@
--- A member, by the tests that the code makes: its content, its row, its tag.
+-- A member, by the tests that the code makes: its tag, its row, its content.
 -- Assumes nothing.
-use mathlib.Core.Path.{◌≡◌, refl, sym, ap, subst, ◌∙◌}
-use Prim.Native.Nat.{ℕ, suc, ◌+◌, ◌-◌, ◌%◌, ◌^◌, ◌≤◌, ◌<◌}
-use native.Mathlib.Nat.{mod-eq_of_lt}
+use Rattle.std.specs.Prelude.{Option, Some, None, Result, Ok, Err}
+use mathlib.Core.Path.{◌≡◌, refl, sym, ap, ◌∙◌}
+use Prim.Native.Nat.{ℕ, zero, suc, ◌+◌, ◌-◌, ◌*◌, ◌≤◌, ◌<◌}
+use native.Mathlib.Numerals.{add-one}
 use native.Mathlib.Omega.{arith}
 use mathlib.Core.Bool.{true, false}
-use mathlib.Core.Option.{Option, none, some}
+use mathlib.Core.Option.{Option as Place, none, some}
 use mathlib.Core.List.{List, [], ◌∷◌}
-use lib.ListN.{length, get_or, drop}
-use lib.Seq.{slice, slice-cons, slice_empty, length-slice}
-use lib.Dec.{eqb}
-use Rattle.payload.proofs.Joined.{and_left}
-use borrow.Author.Tests.{leb-true, lt-ltb, eq-eqb, ne_eqb}
+use lib.ListN.{length, get_or, take, drop, set, length-set}
+use lib.Seq.{slice, slice-cons, slice_empty, get_or-take}
+use Rattle.std.proofs.lemmas.List.{drop-set-lt}
 use Rattle.wire.specs.Choose.{pick}
 use Rattle.wire.specs.Number.{big, number_of}
 use Rattle.wire.specs.Tag.{wire_of, ident_of}
-use Rattle.wire.specs.Kind.{size_of, wire_fits}
-use Rattle.wire.specs.Text.{string_fits}
-use Rattle.wire.specs.declared.verdict.Verdict.{Verdict}
-use Rattle.wire.specs.declared.verdict.Verdict.TheVariants.{TagCut, Wire, Twice, Array, Text}
-use Rattle.payload.specs.declared.table.TypeRow.{TypeRow}
-use Rattle.payload.specs.declared.member.Frame.{Frame}
+use Rattle.wire.specs.Kind.{wire_fits, struct}
+use Rattle.wire.specs.declared.verdict.Verdict.TheVariants.{TagCut, Wire, Twice}
+use Rattle.payload.specs.declared.row.Row.{Row}
 use Rattle.payload.specs.declared.member.Span.{Span}
-use Rattle.payload.specs.declared.member.Spot.{Spot}
-use Rattle.payload.specs.declared.member.Content.{Content}
-use Rattle.payload.specs.declared.member.Content.TheVariants.{In, Cut}
-use Rattle.payload.specs.declared.member.Member.{Member}
-use Rattle.payload.specs.declared.member.Member.TheVariants.{Bad, Unknown, Leaf, Struct}
+use Rattle.payload.specs.declared.member.Refusal.{Refusal}
+use Rattle.payload.specs.declared.read.Level.{Level}
+use Rattle.payload.specs.declared.read.Walker.{Walker}
 use Rattle.payload.specs.Table.{find, row_at}
-use Rattle.payload.specs.declared.table.Found.{Found}
-use Rattle.payload.specs.declared.table.Found.TheVariants.{At, Nothing}
-use Rattle.payload.specs.Cells.{row_in, kind_in, table_in, found_at, Within}
-use Rattle.payload.proofs.Rules.CellLaws.{row_at_lem, table_length}
-use Rattle.payload.specs.Row.{is_absent, shown_of, absent_row}
-use Rattle.payload.specs.Reading.{Body, body_of, Step, refuse, unknown, content_fits, known, met, step_of}
-use Rattle.payload.specs.Walking.{kept_row, kept, body_in, Inside, SpotIn, KnownIn, ContentRead, KnownRead, UnknownIn, UnknownRead, Steady, MemberIn, MemberAt, spot_of}
-use Rattle.payload.proofs.Walking.KeptLaws.{kept_absent, kept_at}
+use Rattle.payload.specs.Cells.{row_in, kind_in, found_at, Stops}
+use Rattle.payload.specs.Row.{is_absent, absent_row, members_row}
+use Rattle.payload.specs.Reading.{content, Step, refuse, unknown, known, met, step_of, behind, member_by}
+use Rattle.payload.specs.Walking.{body_in, Inside, Shows, types_in, met_in, Ready, Onto, inner_of, walk_in, move_by, body_at, known_step, KnownRead, MemberRead, LevelRead}
+use Rattle.payload.proofs.Rules.CellLaws.{row_at_lem}
+use Rattle.payload.proofs.Walking.LevelLaws.{onto_self, onto_next}
 
--- ---- a known member's content
+-- a member's row is kept among the table's
+take_set : (n i : ℕ) (rows : List Row) (r : Row) → i < n → take n (set rows i r) ≡ set (take n rows) i r
+take_set zero i rows r h = absurd (omega arith)
+take_set (suc n) i [] r h = refl
+take_set (suc n) zero (x ∷ xs) r h = refl
+take_set (suc n) (suc i) (x ∷ xs) r h = ap (x ∷◌) (take_set n i xs r (omega arith))
 
--- a string has mark and terminator
-pub string_long : (p : List ℕ) (from end : ℕ) → end ≤ length p → string_fits (slice from end p) ≡ true → 4 ≤ end - from
-unfolding string_fits
-string_long p from end l h = omega (arith, leb-true 4 (length (slice from end p)) (and_left _ _ h), length-slice from end p l)
+-- a walker that keeps a row
+abbrev pub keep : Walker → ℕ → Row → Walker
+keep w i r = record w { rows = set w.rows i r }
 
-module _ (p : List ℕ) (i : ℕ) (t : TypeRow) (c : Span) (h : c.from ≤ c.end) (l : c.end ≤ length p) where
-  own : (word mark : ℕ) → SpotIn c.from c.end i (spot_of i word mark c)
-  own word mark = record { row_is = refl; tagged = omega arith; ordered = h; ended = omega arith }
+module _ (w : Walker) (at : ℕ) (f : Level) (ready : Ready w at f) where
+  stays : Onto w w
+  stays = onto_self w ready.long
 
-  pub content_number : (v n : ℕ) → t.kind < 12 → c.end ≡ c.from + size_of t.kind → n ≡ c.end - c.from
-      → v ≡ number_of big (slice c.from (c.from + n) p) → v < 256 ^ n → (r : Member) → r ≡ Leaf (spot_of i v 1 c) → ContentRead p i t c r
-  unfolding known kept_row content_fits shown_of
-  content_number v n few sized en e below r d =
-      let to : c.from + n ≡ c.end = omega arith in
-      let size : n ≡ size_of t.kind = omega arith in
+  -- ---- the known member of a row
+
+  module _ (i wire : ℕ) (in_table : i < w.table.now.count) (h : at + 2 ≤ f.span.end) where
+    abbrev cell : ℕ
+    cell = get_or w.table.now.cells i 0
+
+    type_is : row_at (types_in w) i ≡ row_in cell
+    type_is = row_at_lem w.table.now.cells w.table.now.count i _ in_table
+
+    step_is : known_step w i wire at f
+        ≡ pick (wire_fits (kind_in cell) wire)
+        (pick (is_absent (get_or w.rows i absent_row)) (known i (row_in cell) (body_at w wire at f)) (refuse Twice at))
+        (refuse Wire at)
+    step_is = rw (type_is, get_or-take w.table.now.count w.rows i absent_row in_table)
+
+    keeps : (r : Row) → Onto w (keep w i r)
+    keeps r = record {
+      bytes_are = refl;
+      table_is = refl;
+      beyond = drop-set-lt w.table.now.count w.rows i r in_table;
+      long = length-set w.rows i r ∙ ready.long;
+    }
+
+    pub known_wire : wire_fits (kind_in cell) wire ≡ false → KnownRead w i wire at f (Err (record { verdict = Wire; place = at })) w
+    unfolding member_by
+    known_wire d = record { is = λ turns k. rw (step_is, d); onto = stays; onward = tt }
+
+    module _ (d : wire_fits (kind_in cell) wire ≡ true) where
+      pub known_twice : is_absent (get_or w.rows i absent_row) ≡ false → KnownRead w i wire at f (Err (record { verdict = Twice; place = at })) w
+      unfolding member_by
+      known_twice a = record { is = λ turns k. rw (step_is, d, a); onto = stays; onward = tt }
+
+      module _ (a : is_absent (get_or w.rows i absent_row) ≡ true) where
+        pub known_cut : (e : Refusal) → body_in w.bytes.now f.span.end (Err e) ≡ body_at w wire at f → KnownRead w i wire at f (Err e) w
+        unfolding known member_by
+        known_cut e b = record { is = λ turns k. rw (step_is, d, a, ← b); onto = stays; onward = tt }
+
+        module _ (c : Span) (b : body_in w.bytes.now f.span.end (Ok c) ≡ body_at w wire at f) (s : Inside (at + 2) f.span.end (Ok c)) where
+          step_in : known_step w i wire at f ≡ known i (row_in cell) (content c.from (slice c.from c.end w.bytes.now) c.end (slice c.end f.span.end w.bytes.now))
+          step_in = step_is ∙ rw (d, a, ← b)
+
+          -- ---- a leaf
+
+          module _ (r : Result Row Refusal) (sh : Shows w.bytes.now (row_in cell) c r) where
+            pub known_unshown : (e : Refusal) → r ≡ Err e → KnownRead w i wire at f (Err e) w
+            unfolding member_by
+            known_unshown e z =
+                record {
+                  is = λ turns k. rw (step_in, ← sh.is i c.end (slice c.end f.span.end w.bytes.now), z);
+                  onto = stays;
+                  onward = tt;
+                }
+
+            pub known_shown : (row : Row) → r ≡ Ok row → KnownRead w i wire at f (Ok c.end) (keep w i row)
+            unfolding member_by
+            known_shown row z =
+                record {
+                  is = λ turns k.
+                      rw (
+                        step_in,
+                        ← sh.is i c.end (slice c.end f.span.end w.bytes.now),
+                        z,
+                        take_set w.table.now.count i w.rows row in_table,
+                      );
+                  onto = keeps row;
+                  onward = (omega arith, s.2, omega (arith, ready.few));
+                }
+
+          -- ---- a struct
+
+          module _ (kind_is : kind_in cell ≡ struct) (low : f.number ≤ 4) (g : Level) (dg : g ≡ inner_of f.number i c g.stop)
+              (stops : Stops w.table.now.cells (i + 1) g.stop w.table.now.count (f.number + 1)) where
+            pub known_less : (g.span.end - g.span.from) * 3 + 2 < (f.span.end - at) * 3
+            known_less = rw dg (omega arith)
+
+            pub known_ready : Ready (keep w i members_row) g.span.from g
+            known_ready =
+                rw dg (record {
+                  steady = record { low = omega arith; bounded = omega (arith, ready.steady.bounded); stops = stops };
+                  inside = s.1;
+                  few = omega (arith, ready.few);
+                  long = length-set w.rows i members_row ∙ ready.long;
+                })
+
+            module _ (r : Result (Unit {0}) Refusal) (v : Walker) (l : LevelRead (keep w i members_row) g.span.from g r v) where
+              inner_is : (turns : ℕ) → f.span.end - at ≤ turns
+                  → move_by turns w f (known_step w i wire at f) ≡ behind c.end (slice c.end f.span.end w.bytes.now) (walk_in v r)
+              unfolding known member_by
+              inner_is turns k =
+                  let less : g.span.end - g.span.from < turns = omega (arith, known_less) in
+                  let e = rw (dg, add-one f.number, add-one i, take_set w.table.now.count i w.rows members_row in_table) at (l.is turns less) in
+                  rw (step_in, kind_is, ← e)
+
+              went : Onto w v
+              went = onto_next w (keep w i members_row) v (keeps members_row) l.onto
+
+              pub known_entered : r ≡ Ok tt → KnownRead w i wire at f (Ok c.end) v
+              unfolding behind
+              known_entered z =
+                  let few = rw (z, dg) at l.few in
+                  record {
+                    is = λ turns k. sym (inner_is turns k ∙ rw (z, ← went.bytes_are));
+                    onto = went;
+                    onward = (omega arith, s.2, few);
+                  }
+
+              pub known_stuck : (e : Refusal) → r ≡ Err e → KnownRead w i wire at f (Err e) v
+              unfolding behind
+              known_stuck e z = record { is = λ turns k. sym (inner_is turns k ∙ rw z); onto = went; onward = tt }
+
+  -- ---- the member at a place
+
+  abbrev step : Step
+  step = step_of w.table.now.width (types_in w) f.number f.first at (slice at f.span.end w.bytes.now) (met_in w)
+
+  pub member_cut : at < f.span.end → f.span.end - at < 2 → MemberRead w at f (Err (record { verdict = TagCut; place = at })) w
+  unfolding step_of member_by
+  member_cut h k =
+      let e : suc at ≡ f.span.end = omega arith in
       record {
-        is = λ end types q.
-            rw (
-              d,
-              q,
-              lt-ltb t.kind 12 few,
-              mod-eq_of_lt (rw size at below),
-              ne_eqb t.kind 14 (λ z. absurd (omega arith)),
-              ne_eqb t.kind 13 (λ z. absurd (omega arith)),
-              ne_eqb t.kind 12 (λ z. absurd (omega arith)),
-              rw to at e,
-            );
-        within = rw d (own v 1);
+        is = λ turns x. rw (slice-cons at f.span.end w.bytes.now 0 h ready.steady.bounded, e, slice_empty f.span.end w.bytes.now);
+        onto = stays;
+        onward = tt;
       }
 
-  pub content_text : (n m : ℕ) → t.kind ≡ 12 → string_fits (slice c.from c.end p) ≡ true → 4 ≤ c.end - c.from → n ≡ c.from + 3 → m ≡ c.end - c.from - 3
-      → (r : Member) → r ≡ Leaf (spot_of i n m c) → ContentRead p i t c r
-  unfolding known kept_row content_fits shown_of
-  content_text n m k fits long en em r d =
-      let e1 : eqb m 0 ≡ false = ne_eqb m 0 (λ z. absurd (omega arith)) in
-      let e2 : m - 1 ≡ c.end - c.from - 4 = omega arith in
-      record {
-        is = λ end types q. rw (d, q, k, e1, fits, length-slice c.from c.end p l, e2, en);
-        within = rw d (own n m);
-      }
-
-  pub content_no_text : t.kind ≡ 12 → string_fits (slice c.from c.end p) ≡ false → (r : Member) → r ≡ Bad Text c.from → ContentRead p i t c r
-  unfolding known content_fits
-  content_no_text k fits r d = record { is = λ end types q. rw (d, k, fits); within = rw d tt }
-
-  pub content_array : (n m : ℕ) → t.kind ≡ 13 → n ≡ size_of t.elem → (c.end - c.from) % n ≡ 0 → m ≡ c.end - c.from + 1
-      → (r : Member) → r ≡ Leaf (spot_of i c.from m c) → ContentRead p i t c r
-  unfolding known kept_row content_fits shown_of
-  content_array n m k en fits em r d =
-      let e1 : eqb m 0 ≡ false = ne_eqb m 0 (λ z. absurd (omega arith)) in
-      let e2 : m - 1 ≡ c.end - c.from = omega arith in
-      record {
-        is = λ end types q. rw (d, q, k, e1, e2, length-slice c.from c.end p l, ← en, eq-eqb ((c.end - c.from) % n) 0 fits);
-        within = rw d (own c.from m);
-      }
-
-  pub content_no_array : (n : ℕ) → t.kind ≡ 13 → n ≡ size_of t.elem → ((c.end - c.from) % n ≡ 0 → ⊥)
-      → (r : Member) → r ≡ Bad Array c.from → ContentRead p i t c r
-  unfolding known content_fits
-  content_no_array n k en fits r d =
-      record {
-        is = λ end types q. rw (d, k, length-slice c.from c.end p l, ← en, ne_eqb ((c.end - c.from) % n) 0 fits);
-        within = rw d tt;
-      }
-
-  pub content_struct : t.kind ≡ 14 → (r : Member) → r ≡ Struct (spot_of i 0 1 c) → ContentRead p i t c r
-  unfolding known
-  content_struct k r d = record { is = λ end types q. rw (d, k); within = rw d (own 0 1, k, refl) }
-
--- ---- a member behind its tag
-
-module _ (p : List ℕ) (at end : ℕ) (b : Body) (o : Content) (e : body_in p end o ≡ b) (inside : Inside at end o) where
-  pub unknown_cut : (v : Verdict) (place : ℕ) → o ≡ Cut v place → (r : Member) → r ≡ Bad v place → UnknownRead p at end b r
-  unfolding unknown
-  unknown_cut v place d r k = record { is = λ types. rw (k, ← e, d); within = rw k tt }
-
-  pub unknown_in : (c : Span) → o ≡ In c → (r : Member) → r ≡ Unknown c.end → UnknownRead p at end b r
-  unfolding unknown
-  unknown_in c d r k =
-      let s : Inside at end (In c) = subst (Inside at end) d inside in
-      record { is = λ types. rw (k, ← e, d); within = rw k (omega arith, s.2) }
-
-  module _ (i : ℕ) (t : TypeRow) where
-    pub known_cut : (v : Verdict) (place : ℕ) → o ≡ Cut v place → (r : Member) → r ≡ Bad v place → KnownRead p at end i t b r
-    unfolding known
-    known_cut v place d r k = record { is = λ types q. rw (k, ← e, d); within = rw k tt }
-
-    widen : (c : Span) → Inside at end (In c) → (r : Member) → KnownIn c.from c.end i t r → KnownIn at end i t r
-    widen c s (Bad v place) w = tt
-    widen c s (Unknown to) w = w
-    widen c s (Leaf x) w = record { row_is = w.row_is; tagged = omega arith; ordered = w.ordered; ended = omega arith }
-    widen c s (Struct x) w =
-        let y = w.0 in
-        (record { row_is = y.row_is; tagged = omega (arith, y.tagged); ordered = y.ordered; ended = omega (arith, y.ended) }, w.1, w.2)
-
-    pub known_in : (c : Span) → o ≡ In c → (r : Member) → ContentRead p i t c r → KnownRead p at end i t b r
-    known_in c d r w =
-        record {
-          is = λ types q. w.is end types q ∙ ap (known i t) (ap (body_in p end) (sym d) ∙ e);
-          within = widen c (subst (Inside at end) d inside) r w.within;
-        }
-
--- ---- a tag, and what its Data ID finds
-
-module _ (p cells marks : List ℕ) (at : ℕ) (f : Frame) where
-  abbrev types : List TypeRow
-  types = table_in f.count cells
-
-  abbrev step : List ℕ → Step
-  step words = step_of f.width types f.level f.first at (slice at f.end p) (kept types words marks)
-
-  pub member_cut : f.end ≤ length p → at < f.end → f.end - at < 2 → (r : Member) → r ≡ Bad TagCut at → MemberAt p cells marks at f r
-  unfolding step_of
-  member_cut l h k r d =
-      let e : suc at ≡ f.end = omega arith in
-      record { is = λ words. rw (d, slice-cons at f.end p 0 h l, e, slice_empty f.end p); within = rw d tt }
-
-  module _ (steady : Steady p cells f) (h : 2 ≤ f.end - at) (tag : ℕ) (t : tag ≡ number_of big (slice at (at + 2) p))
+  module _ (h : 2 ≤ f.span.end - at) (tag : ℕ) (t : tag ≡ number_of big (slice at (at + 2) w.bytes.now))
       (wire : ℕ) (ew : wire ≡ wire_of tag) (ident : ℕ) (ei : ident ≡ ident_of tag)
-      (found : Found) (e : found ≡ found_at f.first (find f.level ident (drop f.first types)))
-      (within : Within cells f.first f.count f.level found) where
-    tag_bytes_lem : (end : ℕ) → at + 2 ≤ end → end ≤ length p → slice at end p ≡ get_or p at 0 ∷ get_or p (suc at) 0 ∷ slice (at + 2) end p
+      (found : Option ℕ) (e : found ≡ found_at f.first (find f.number ident (drop f.first (types_in w)))) where
+    tag_bytes_lem : (end : ℕ) → at + 2 ≤ end → end ≤ length w.bytes.now
+        → slice at end w.bytes.now ≡ get_or w.bytes.now at 0 ∷ get_or w.bytes.now (suc at) 0 ∷ slice (at + 2) end w.bytes.now
     tag_bytes_lem end a b =
         let z : suc (suc at) ≡ at + 2 = omega arith in
-        slice-cons at end p 0 (omega arith) b ∙ ap (get_or p at 0 ∷◌) (slice-cons (suc at) end p 0 (omega arith) b ∙ rw z)
+        slice-cons at end w.bytes.now 0 (omega arith) b ∙ ap (get_or w.bytes.now at 0 ∷◌) (slice-cons (suc at) end w.bytes.now 0 (omega arith) b ∙ rw z)
 
-    tag_is : number_of big (get_or p at 0 ∷ get_or p (suc at) 0 ∷ []) ≡ tag
+    tag_is : number_of big (get_or w.bytes.now at 0 ∷ get_or w.bytes.now (suc at) 0 ∷ []) ≡ tag
     tag_is =
-        let l = steady.bounded in
-        sym (t ∙ ap (number_of big) (tag_bytes_lem (at + 2) (omega arith) (omega arith) ∙ rw (slice_empty (at + 2) p)))
+        let l = ready.steady.bounded in
+        sym (t ∙ ap (number_of big) (tag_bytes_lem (at + 2) (omega arith) (omega arith) ∙ rw (slice_empty (at + 2) w.bytes.now)))
 
-    abbrev body : Body
-    body = body_of f.width wire (at + 2) (slice (at + 2) f.end p)
+    abbrev looked : Place ℕ
+    looked = find f.number ident (drop f.first (types_in w))
 
     -- the step behind the tag
-    step_met : (words : List ℕ)
-        → step words ≡ met types f.first wire at body (kept types words marks) (find f.level ident (drop f.first types))
+    step_met : step ≡ met (types_in w) f.first wire at (body_at w wire at f) (met_in w) looked
     unfolding step_of
-    step_met words = rw (tag_bytes_lem f.end (omega arith) steady.bounded, tag_is, ew, ei)
+    step_met = rw (tag_bytes_lem f.span.end (omega arith) ready.steady.bounded, tag_is, ew, ei)
 
-    abbrev looked : Option ℕ
-    looked = find f.level ident (drop f.first types)
-
-    found_none : (o : Option ℕ) → Nothing ≡ found_at f.first o → o ≡ none
+    found_none : (o : Place ℕ) → None ≡ found_at f.first o → o ≡ none
     found_none none q = refl
     found_none (some k) q = let z : ◌≡◌ {A = ℕ} 0 1 = cc in absurd (omega arith)
 
-    pub member_unknown : found ≡ Nothing → (r : Member) → UnknownRead p (at + 2) f.end body r → MemberAt p cells marks at f r
-    unfolding met
-    member_unknown d r u =
-        let z = found_none looked (sym d ∙ e) in
-        record { is = λ words. u.is types ∙ sym (step_met words ∙ rw z); within = place r u.within }
-      where
-        place : (r : Member) → UnknownIn (at + 2) f.end r → MemberIn cells (at + 2) f r
-        place (Bad v q) w = tt
-        place (Unknown to) w = w
-        place (Leaf s) w = absurd w
-        place (Struct s) w = absurd w
-
-    module _ (i : ℕ) (d : found ≡ At i) where
-      in_level : Within cells f.first f.count f.level (At i)
-      in_level = subst (Within cells f.first f.count f.level) d within
-
-      type_is : row_at types i ≡ row_in (get_or cells i 0)
-      type_is = row_at_lem cells f.count i _ in_level.1
-
-      -- the step of the row that was found
-      abbrev Met : Step → Type 0
-      Met s = (words : List ℕ)
-          → s ≡ pick (wire_fits (row_in (get_or cells i 0)).kind wire)
-          (pick (eqb (get_or marks i 0) 0) (known i (row_in (get_or cells i 0)) body) (refuse Twice at))
-          (refuse Wire at)
-          → s ≡ step words
-
-      step_found : (s : Step) → Met s
+    module _ (d : found ≡ None) where
+      step_unknown : step ≡ unknown (body_at w wire at f)
       unfolding met
-      step_found s words q = q ∙ sym (step_met words ∙ go looked (sym d ∙ e))
+      step_unknown = step_met ∙ rw (found_none looked (sym d ∙ e))
+
+      pub member_unread : (x : Refusal) → body_in w.bytes.now f.span.end (Err x) ≡ body_at w wire at f → MemberRead w at f (Err x) w
+      unfolding unknown member_by
+      member_unread x b = record { is = λ turns k. rw (step_unknown, ← b); onto = stays; onward = tt }
+
+      pub member_skipped : (c : Span) → body_in w.bytes.now f.span.end (Ok c) ≡ body_at w wire at f → Inside (at + 2) f.span.end (Ok c)
+          → MemberRead w at f (Ok c.end) (record w { skipped = w.skipped + 1 })
+      unfolding unknown member_by
+      member_skipped c b s =
+          record {
+            is = λ turns k. rw (step_unknown, ← b, add-one w.skipped);
+            onto = record { bytes_are = refl; table_is = refl; beyond = refl; long = ready.long };
+            onward = (omega arith, s.2, omega (arith, ready.few));
+          }
+
+    module _ (i : ℕ) (d : found ≡ Some i) where
+      step_known : step ≡ known_step w i wire at f
+      unfolding met
+      step_known = step_met ∙ go looked (sym d ∙ e)
         where
-          absent_is : is_absent (get_or (kept types words marks) i absent_row) ≡ eqb (get_or marks i 0) 0
-          absent_is =
-              ap is_absent (kept_at words marks types i (omega (arith, in_level.1, table_length f.count cells)))
-              ∙ kept_absent _ _ _
-
-          go : (o : Option ℕ) → At i ≡ found_at f.first o
-              → met types f.first wire at body (kept types words marks) o
-              ≡ pick (wire_fits (row_in (get_or cells i 0)).kind wire)
-              (pick (eqb (get_or marks i 0) 0) (known i (row_in (get_or cells i 0)) body) (refuse Twice at))
-              (refuse Wire at)
+          go : (o : Place ℕ) → Some i ≡ found_at f.first o
+              → met (types_in w) f.first wire at (body_at w wire at f) (met_in w) o ≡ known_step w i wire at f
           go none y = let z : ◌≡◌ {A = ℕ} 0 1 = cc in absurd (omega arith)
-          go (some k) y = let z : i ≡ f.first + k = cc in rw (← z, type_is, absent_is)
+          go (some k) y = let z : i ≡ f.first + k = cc in rw (← z)
 
-      pub member_wire : wire_fits (kind_in (get_or cells i 0)) wire ≡ false → (r : Member) → r ≡ Bad Wire at → MemberAt p cells marks at f r
-      member_wire w r q = record { is = λ words. rw q (step_found _ words (rw w)); within = rw q tt }
-
-      module _ (w : wire_fits (kind_in (get_or cells i 0)) wire ≡ true) where
-        pub member_twice : (get_or marks i 0 ≡ 0 → ⊥) → (r : Member) → r ≡ Bad Twice at → MemberAt p cells marks at f r
-        member_twice n r q = record { is = λ words. rw q (step_found _ words (rw (w, ne_eqb (get_or marks i 0) 0 n))); within = rw q tt }
-
-        pub member_known : get_or marks i 0 ≡ 0 → (r : Member) → KnownRead p (at + 2) f.end i (row_in (get_or cells i 0)) body r → MemberAt p cells marks at f r
-        member_known n r k =
-            record {
-              is = λ words. k.is types type_is ∙ step_found _ words (rw (w, eq-eqb (get_or marks i 0) 0 n));
-              within = place r k.within;
-            }
-          where
-            level_is : f.level ≤ 4
-            level_is = omega (arith, (steady.fine.each i in_level.1).level_in_lem, in_level.2)
-
-            spot : (s : Spot) → SpotIn (at + 2) f.end i s → SpotIn (at + 2) f.end s.row s
-            spot s x = record { row_is = refl; tagged = x.tagged; ordered = x.ordered; ended = x.ended }
-
-            place : (r : Member) → KnownIn (at + 2) f.end i (row_in (get_or cells i 0)) r → MemberIn cells (at + 2) f r
-            place (Bad v q) x = tt
-            place (Unknown to) x = absurd x
-            place (Leaf s) x = (spot s x, omega (arith, x.row_is, in_level.1))
-            place (Struct s) x =
-                (spot s x.0, omega (arith, x.0.row_is, in_level.1), level_is, ap (λ (j : ℕ). (row_at types j).kind) x.0.row_is ∙ ap (λ (y : TypeRow). y.kind) type_is ∙ x.1, x.2)
+      pub member_known : (r : Result ℕ Refusal) (v : Walker) → KnownRead w i wire at f r v → MemberRead w at f r v
+      member_known r v k =
+          record { is = λ turns x. k.is turns x ∙ ap (move_by turns w f) (sym step_known); onto = k.onto; onward = k.onward }

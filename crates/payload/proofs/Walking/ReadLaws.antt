@@ -1,113 +1,102 @@
 -- A payload's reading, from the walk of level 1.
 -- Assumes nothing.
-use mathlib.Core.Path.{◌≡◌, refl, sym, ◌∙◌}
-use Prim.Native.Nat.{ℕ, suc, ◌≤◌, ◌<◌}
+use Rattle.std.specs.Prelude.{Result, Ok, Err}
+use mathlib.Core.Path.{◌≡◌, refl, sym, ap, ◌∙◌}
+use Prim.Native.Nat.{ℕ, zero, suc, ◌-◌, ◌≤◌, ◌<◌}
 use native.Mathlib.Omega.{arith}
 use mathlib.Core.Bool.{Bool, true, false}
-use mathlib.Core.List.{List}
-use lib.ListN.{length, replicate}
-use lib.Seq.{take-length}
-use borrow.Author.Tests.{lt-ltb, le-ltb, eq-eqb, ne_eqb}
-use Rattle.wire.specs.Verdict.{verdict_number}
-use Rattle.wire.specs.declared.verdict.Verdict.{Verdict}
+use mathlib.Core.List.{List, ◌∷◌}
+use lib.ListN.{length, take, drop, replicate}
+use lib.Seq.{take-length, length-take-le}
+use Rattle.std.proofs.lemmas.List.{take-append-drop}
+use Rattle.payload.specs.declared.table.TypeRow.{TypeRow}
+use borrow.Author.Tests.{lt-ltb, le-ltb}
 use Rattle.wire.specs.declared.verdict.Verdict.TheVariants.{Accepted, Table as NoTable, Room, Large}
 use Rattle.payload.specs.declared.table.Table.{Table}
-use Rattle.payload.specs.declared.read.Reading.{Reading}
-use Rattle.payload.specs.declared.read.Ending.{Ending}
-use Rattle.payload.specs.declared.read.Admission.{Admission}
-use Rattle.payload.specs.declared.member.Frame.{Frame}
-use Rattle.payload.specs.declared.read.Cursor.{Cursor}
-use Rattle.payload.specs.declared.read.Walk.{Walk}
-use Rattle.payload.specs.declared.read.Walk.TheVariants.{Going, Refused}
-use Rattle.payload.specs.Cells.{rows_in, table_in, FineTable, Checked}
-use Rattle.payload.specs.Reading.{payload_most, walked_of, cleared, answer_of, checked_of, reading_of}
-use Rattle.payload.specs.Walking.{kept_from, kept, walk_in, LevelRead, stop_at, settled, Ended, after_of, Admitted}
-use Rattle.payload.proofs.Walking.KeptLaws.{kept_none}
+use Rattle.payload.specs.declared.read.Level.{Level}
+use Rattle.payload.specs.declared.read.Walker.{Walker}
+use Rattle.payload.specs.declared.member.Refusal.{Refusal}
+use Rattle.payload.specs.Table.{table_fits}
+use Rattle.payload.specs.Cells.{table_in, Checked}
+use Rattle.payload.specs.Row.{absent_row}
+use Rattle.payload.specs.Reading.{payload_most, walked_of, cleared, full, answer_of, checked_of, reading_of}
+use Rattle.payload.specs.Walking.{types_in, met_in, walk_in, LevelRead}
+use Rattle.payload.proofs.Rules.CellLaws.{table_length}
 
--- ---- refusals
+-- ---- the rows
 
-none_kept : (cells words marks : List ℕ) (n : ℕ) (v : Verdict) (place : ℕ) → settled cells words marks (stop_at n v place) ≡ cleared n v place
-unfolding rows_in table_in kept_from kept
-none_kept cells words marks n v place = refl
+take_absent : (n m : ℕ) → n ≤ m → take n (replicate m absent_row) ≡ replicate n absent_row
+take_absent zero m h = refl
+take_absent (suc n) zero h = absurd (omega arith)
+take_absent (suc n) (suc m) h = ap (absent_row ∷◌) (take_absent n m (omega arith))
 
-ended_stop : (cells words marks : List ℕ) (n : ℕ) (v : Verdict) (place : ℕ) (o : Ending) → o ≡ stop_at n v place
-    → (x : Reading) → cleared n v place ≡ x → Ended cells words marks o x
-ended_stop cells words marks n v place o d x e =
-    rw d (record { is = none_kept cells words marks n v place ∙ e; fine = record { few = omega arith; each = λ i h. absurd (omega arith) } })
+drop_absent : (n m : ℕ) → drop n (replicate m absent_row) ≡ replicate (m - n) absent_row
+drop_absent zero m = let e : m - 0 ≡ m = omega arith in rw e
+drop_absent (suc n) zero = let e : 0 - suc n ≡ 0 = omega arith in rw e
+drop_absent (suc n) (suc m) = let e : suc m - suc n ≡ m - n = omega arith in rw e (drop_absent n m)
 
 -- ---- the walk of level 1
 
-abbrev pub top : List ℕ → ℕ → ℕ → Frame
-top p count width = record { first = 0; stop = count; level = 1; end = length p; count = count; width = width }
+abbrev pub top : ℕ → ℕ → Level
+top count end = record { number = 1; first = 0; stop = count; span = record { from = 0; end = end } }
 
-abbrev pub origin : Cursor
-origin = record { at = 0; skipped = 0 }
+module _ (w : Walker) (rows_are : w.rows ≡ replicate 64 absent_row) (none_skipped : w.skipped ≡ 0) (r : Result (Unit {0}) Refusal) (v : Walker)
+    (l : LevelRead w 0 (top w.table.now.count (length w.bytes.now)) r v) where
+  abbrev count : ℕ
+  count = w.table.now.count
 
-module _ (p cells : List ℕ) (count width : ℕ) (r : Walk) (words₀ marks₀ words marks : List ℕ) (ew : words₀ ≡ replicate 64 0) (em : marks₀ ≡ replicate 64 0)
-    (l : LevelRead p cells words₀ marks₀ origin (top p count width) r words marks) where
-  walk_is : walk_in (table_in count cells) words marks r ≡ walked_of width (table_in count cells) p
+  few : count ≤ 64
+  few = w.table.now.sound.fine.few
+
+  walk_is : walk_in v r ≡ walked_of w.table.now.width (types_in w) w.bytes.now
   unfolding walked_of
-  walk_is = l.is (suc (length p)) (omega arith) ∙ rw (ew, em, take-length p, kept_none (table_in count cells) 64 64)
+  walk_is =
+      l.is (suc (length w.bytes.now)) (omega arith)
+      ∙ rw (rows_are, none_skipped, take-length w.bytes.now, take_absent count 64 few, table_length count w.table.now.cells)
 
-  pub read_refused : (v : Verdict) (place : ℕ) → r ≡ Refused v place → (o : Ending) → o ≡ stop_at count v place
-      → Ended cells words marks o (answer_of count (walked_of width (table_in count cells) p))
-  unfolding answer_of
-  read_refused v place e o d = ended_stop cells words marks count v place o d _ (rw (← walk_is, e))
+  module _ (small : length w.bytes.now ≤ payload_most) where
+    checked_is : answer_of count (walk_in v r) ≡ checked_of w.bytes.now (types_in w) count w.table.now.width
+    unfolding checked_of
+    checked_is = ap (answer_of count) walk_is ∙ rw (le-ltb payload_most (length w.bytes.now) small)
 
-  pub read_accepted : (c : Cursor) → r ≡ Going c → FineTable count cells
-      → (o : Ending) → o ≡ record { verdict = Accepted; place = 0; skipped = c.skipped; filled = count; kept = count }
-      → Ended cells words marks o (answer_of count (walked_of width (table_in count cells) p))
-  unfolding answer_of
-  read_accepted c e fine o d = rw d (record { is = rw (← walk_is, e); fine = fine })
+    pub read_refused : (e : Refusal) → r ≡ Err e → cleared count e.verdict e.place ≡ checked_of w.bytes.now (types_in w) count w.table.now.width
+    unfolding answer_of
+    read_refused e z = rw z at checked_is
+
+    -- rows beyond the table's are still absent
+    full_is : full (met_in v) ≡ v.rows
+    full_is =
+        let long : length (take count v.rows) ≡ count = length-take-le count v.rows (omega (arith, l.onto.long)) in
+        let rest : drop count v.rows ≡ replicate (64 - count) absent_row = l.onto.beyond ∙ rw (rows_are, drop_absent count 64) in
+        rw (l.onto.table_is, long, ← rest, take-append-drop count v.rows)
+
+    pub read_accepted : ((e : Refusal) → r ≡ Err e → ⊥)
+        → record { verdict = Accepted; place = 0; skipped = v.skipped; filled = count; rows = v.rows } ≡ checked_of w.bytes.now (types_in w) count w.table.now.width
+    unfolding answer_of
+    read_accepted n = rw (← full_is) (go r refl)
+      where
+        go : (x : Result (Unit {0}) Refusal) → r ≡ x
+            → record { verdict = Accepted; place = 0; skipped = v.skipped; filled = count; rows = full (met_in v) }
+            ≡ checked_of w.bytes.now (types_in w) count w.table.now.width
+        go (Ok u) z = rw z at checked_is
+        go (Err e) z = absurd (n e z)
 
 -- ---- the verdicts before the walk
 
-module _ (t : Table) (room : ℕ) (cells : List ℕ) (fits : Bool) (k : Checked t cells fits) (a : Admission) where
-  pub admitted_table : fits ≡ false → a ≡ record { why = NoTable; filled = 0 } → Admitted t room cells a
-  unfolding reading_of
-  admitted_table e d = rw d (record { reads = λ p. rw (sym k.answer ∙ e); fine = λ z. absurd (omega (arith, z)) })
+pub read_large : (p : List ℕ) (types : List TypeRow) (count width : ℕ) → payload_most < length p → cleared count Large 0 ≡ checked_of p types count width
+unfolding checked_of
+read_large p types count width h = rw (lt-ltb payload_most (length p) h)
 
-  module _ (e : fits ≡ true) where
-    pub admitted_room : room < t.count → a ≡ record { why = Room; filled = 0 } → Admitted t room cells a
-    unfolding reading_of
-    admitted_room h d =
-        rw d (record { reads = λ p. rw (sym k.answer ∙ e, lt-ltb room t.count h); fine = λ z. absurd (omega (arith, z)) })
+pub read_no_table : (p : List ℕ) (t : Table) (room : ℕ) → table_fits t ≡ false → cleared 0 NoTable 0 ≡ reading_of p t room
+unfolding reading_of
+read_no_table p t room e = rw e
 
-    pub admitted_fine : t.count ≤ room → a ≡ record { why = Accepted; filled = t.count } → Admitted t room cells a
-    unfolding reading_of
-    admitted_fine h d =
-        let f = k.filled e in
-        rw d
-        (record {
-          reads = λ p. rw (f.rows_are, sym k.answer ∙ e, le-ltb room t.count h);
-          fine = λ z. (f.fine, f.width_in);
-        })
+pub read_no_room : (p : List ℕ) (t : Table) (room : ℕ) → table_fits t ≡ true → room < t.count → cleared 0 Room 0 ≡ reading_of p t room
+unfolding reading_of
+read_no_room p t room e h = rw (e, lt-ltb room t.count h)
 
 -- of the table's cells, for the layer above
 pub checked_reading : (p : List ℕ) (t : Table) (room : ℕ) (cells : List ℕ) (fits : Bool) → Checked t cells fits → fits ≡ true → t.count ≤ room
     → checked_of p (table_in t.count cells) t.count t.width ≡ reading_of p t room
 unfolding reading_of
 checked_reading p t room cells fits k e h = rw ((k.filled e).rows_are, sym k.answer ∙ e, le-ltb room t.count h)
-
--- ---- 17, then the walk
-
-module _ (p cells : List ℕ) (count width : ℕ) (words marks : List ℕ) (o : Ending) where
-  pub limited_large : payload_most < length p → o ≡ stop_at count Large 0 → Ended cells words marks o (checked_of p (table_in count cells) count width)
-  unfolding checked_of
-  limited_large l d = ended_stop cells words marks count Large 0 o d _ (rw (lt-ltb payload_most (length p) l))
-
-  pub limited_walk : length p ≤ payload_most → Ended cells words marks o (answer_of count (walked_of width (table_in count cells) p))
-      → Ended cells words marks o (checked_of p (table_in count cells) count width)
-  unfolding checked_of
-  limited_walk l d = record { is = d.is ∙ rw (le-ltb payload_most (length p) l); fine = d.fine }
-
--- ---- a refusal that is already given, or the reading
-
-module _ (why : Verdict) (p cells : List ℕ) (count width : ℕ) (words marks : List ℕ) (o : Ending) where
-  pub after_refused : (verdict_number why ≡ 0 → ⊥) → o ≡ stop_at count why 0
-      → Ended cells words marks o (after_of why p (table_in count cells) count width)
-  after_refused n d = ended_stop cells words marks count why 0 o d _ (rw (ne_eqb (verdict_number why) 0 n))
-
-  pub after_read : verdict_number why ≡ 0 → Ended cells words marks o (checked_of p (table_in count cells) count width)
-      → Ended cells words marks o (after_of why p (table_in count cells) count width)
-  after_read z d = record { is = d.is ∙ rw (eq-eqb (verdict_number why) 0 z); fine = d.fine }

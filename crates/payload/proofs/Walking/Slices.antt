@@ -1,11 +1,11 @@
 -- Parts of parts of a list of bytes.
 -- Assumes nothing.
 use mathlib.Core.Path.{◌≡◌, ap, ◌∙◌}
-use Prim.Native.Nat.{ℕ, zero, suc, ◌+◌, ◌≤◌, ◌<◌}
+use Prim.Native.Nat.{ℕ, zero, suc, ◌+◌, ◌≤◌}
 use native.Mathlib.Omega.{arith}
 use mathlib.Core.List.{List, [], ◌∷◌}
-use lib.ListN.{take, drop, get_or}
-use lib.Seq.{slice, take-nil, drop-drop, get_or-take, get_or-drop, take-take}
+use lib.ListN.{take, drop}
+use lib.Seq.{slice, take-nil, drop-drop, take-take}
 
 take_drop : (a m : ℕ) (l : List ℕ) → take m (drop a l) ≡ drop a (take (a + m) l)
 take_drop zero m l = let e : 0 + m ≡ m = omega arith in rw e
@@ -18,6 +18,3 @@ module _ (p : List ℕ) (a e : ℕ) where
 
   pub part_take : (k : ℕ) → a + k ≤ e → take k (slice a e p) ≡ slice a (a + k) p
   part_take k h = take_drop a k (take e p) ∙ ap (drop a) (take-take (a + k) e p h)
-
-  pub part_at : (i : ℕ) → a + i < e → get_or (slice a e p) i 0 ≡ get_or p (a + i) 0
-  part_at i h = get_or-drop a (take e p) i 0 ∙ get_or-take e p (a + i) 0 h

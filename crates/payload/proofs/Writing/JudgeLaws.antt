@@ -1,91 +1,67 @@
--- The judging of rows, row by row: each answer of the loop, and one turn of it.
+-- The judging of rows: its start, one turn of it, and its end.
 -- Assumes nothing.
-use mathlib.Core.Path.{◌≡◌, refl}
+use mathlib.Core.Path.{◌≡◌, refl, ap}
 use mathlib.Core.Bool.{true, false}
-use mathlib.Core.List.{List}
-use Prim.Native.Nat.{ℕ, suc, ◌+◌, ◌≤◌, ◌<◌}
+use mathlib.Core.List.{List, [], ◌∷◌, map}
+use mathlib.Core.Logic.{◌⊎◌, inl, inr}
+use Prim.Native.Nat.{ℕ, zero, suc, ◌+◌, ◌≤◌, ◌<◌}
 use native.Mathlib.Omega.{arith}
-use native.Mathlib.Decide.{dec_le}
-use native.Mathlib.Numerals.{add-one}
-use lib.ListN.{length, get_or, drop, set, length-set}
-use lib.Seq.{drop-cons, get_or-set_same, get_or-set_other}
+use lib.ListN.{length, get_or, take, drop}
+use lib.Seq.{drop-cons}
 use Rattle.payload.specs.declared.row.Row.{Row}
-use Rattle.payload.specs.declared.columns.Held.{Held}
-use Rattle.payload.specs.declared.judge.Judged.TheVariants.{Fine, Outside, Unfit}
-use Rattle.payload.specs.Cells.{row_in, kind_in, table_in}
-use Rattle.payload.specs.Row.{absent_row}
-use Rattle.payload.specs.Judging.{outside, row_fine, up_after, judged_from, judged_of}
-use Rattle.payload.specs.Columns.{held_of, Packed, PackedAt}
-use Rattle.payload.proofs.Rules.CellLaws.{rows_here, rows_end}
-use Rattle.payload.proofs.Writing.PackLaws.{value_packed, fine_fits}
+use Rattle.payload.specs.declared.table.TypeRow.{TypeRow}
+use Rattle.payload.specs.Cells.{row_in, rows_in, table_in, FineRow, FineTable}
+use Rattle.payload.specs.Judging.{outside, row_fine, up_after, Fine, Outside, Unfit, judged_from, judged_of}
 
--- what holds of the first i rows: they are kept, and the rows from there on decide
-pub record Judging (buf cells : List ℕ) (rows : List Row) (n : ℕ) (nums sizes : List ℕ) (upto i : ℕ) : Type 0 where
-  pub at_most : i ≤ n
-  pub long_nums : length nums ≡ 64
-  pub long_sizes : length sizes ≡ 64
-  pub answer : judged_from buf upto (drop i (table_in n cells)) (drop i rows) ≡ judged_of buf (table_in n cells) rows
-  pub packed : (j : ℕ) → j < i → PackedAt buf cells rows nums sizes j
+rows_map : (k i : ℕ) (cells : List ℕ) → i + k ≤ length cells → rows_in k i cells ≡ map row_in (take k (drop i cells))
+unfolding rows_in
+rows_map zero i cells h = refl
+rows_map (suc k) i cells h = rw (drop-cons cells i 0 (omega arith)) (ap (λ (t : List TypeRow). row_in (get_or cells i 0) ∷ t) (rows_map k (suc i) cells (omega arith)))
 
-module _ (buf cells : List ℕ) (rows : List Row) (n : ℕ) where
-  pub judging_none : (nums sizes : List ℕ) (upto i : ℕ) → upto ≡ 1 → i ≡ 0 → length nums ≡ 64 → length sizes ≡ 64
-      → Judging buf cells rows n nums sizes upto i
-  unfolding judged_of
-  judging_none nums sizes upto i eu ei en es = rw (eu, ei) (record {
-    at_most = omega arith;
-    long_nums = en;
-    long_sizes = es;
-    answer = refl;
-    packed = λ j h. absurd (omega arith);
-  })
+-- the rows of a table are those of its cells, one by one
+pub table_map : (n : ℕ) (cells : List ℕ) → n ≤ length cells → table_in n cells ≡ map row_in (take n cells)
+unfolding table_in
+table_map n cells h = rows_map n 0 cells (omega arith)
 
-  module _ (nums sizes : List ℕ) (upto i : ℕ) (inv : Judging buf cells rows n nums sizes upto i) where
-    pub judging_end : n ≤ i → Fine ≡ judged_of buf (table_in n cells) rows
+get_take : (n k : ℕ) (cells : List ℕ) → k < n → get_or (take n cells) k 0 ≡ get_or cells k 0
+get_take zero k cells h = absurd (omega arith)
+get_take (suc n) k [] h = refl
+get_take (suc n) zero (x ∷ cells) h = refl
+get_take (suc n) (suc k) (x ∷ cells) h = get_take n k cells (omega arith)
+
+length_take : (n : ℕ) (cells : List ℕ) → length (take n cells) ≤ n
+length_take zero cells = omega arith
+length_take (suc n) [] = omega arith
+length_take (suc n) (x ∷ cells) = omega (arith, length_take n cells)
+
+pub fine_start : (n : ℕ) (cells : List ℕ) → FineTable n cells → (k : ℕ) → k < length (take n cells) → FineRow (row_in (get_or (take n cells) k 0))
+fine_start n cells f k h = let q : k < n = omega (arith, length_take n cells) in rw (get_take n k cells q) (f.each k q)
+
+pub judged_start : (buf : List ℕ) (n : ℕ) (cells : List ℕ) (rows : List Row) → n ≤ length cells
+    → judged_from buf 1 (map row_in (take n cells)) rows ≡ judged_of buf (table_in n cells) rows
+unfolding judged_of
+judged_start buf n cells rows h = rw (table_map n cells h)
+
+-- ---- one turn
+
+module _ (buf : List ℕ) (upto : ℕ) (r : TypeRow) (rs : List TypeRow) (v : Row) (vs : List Row) where
+  pub judged_outside : outside (length buf) v.value ≡ true → judged_from buf upto (r ∷ rs) (v ∷ vs) ≡ Outside
+  unfolding judged_from
+  judged_outside o = rw o
+
+  module _ (o : outside (length buf) v.value ≡ false) where
+    pub judged_unfit : row_fine buf upto r v ≡ false → judged_from buf upto (r ∷ rs) (v ∷ vs) ≡ Unfit
     unfolding judged_from
-    judging_end h = rw (rows_end cells n i h) at inv.answer
+    judged_unfit f = rw (o, f)
 
-    module _ (few : n ≤ 64) (held : n ≤ length rows) (h : i < n) where
-      abbrev here : Row
-      here = get_or rows i absent_row
+    pub judged_next : row_fine buf upto r v ≡ true → judged_from buf upto (r ∷ rs) (v ∷ vs) ≡ judged_from buf (up_after upto r v) rs vs
+    unfolding judged_from
+    judged_next f = rw (o, f)
 
-      pub judging_outside : outside (length buf) here.value ≡ true → Outside ≡ judged_of buf (table_in n cells) rows
-      unfolding judged_from
-      judging_outside e = rw (rows_here cells n i h, drop-cons rows i absent_row (omega arith), e) at inv.answer
-
-      module _ (e : outside (length buf) here.value ≡ false) where
-        pub judging_unfit : row_fine buf upto (row_in (get_or cells i 0)) here ≡ false → Unfit ≡ judged_of buf (table_in n cells) rows
-        unfolding judged_from
-        judging_unfit f = rw (rows_here cells n i h, drop-cons rows i absent_row (omega arith), e, f) at inv.answer
-
-        pub judging_next : row_fine buf upto (row_in (get_or cells i 0)) here ≡ true → length buf < 9223372036854775808
-            → (u : ℕ) → u ≡ up_after upto (row_in (get_or cells i 0)) here → (k : Held) → k ≡ held_of (kind_in (get_or cells i 0)) here.value here.bits
-            → Judging buf cells rows n (set nums i k.num) (set sizes i k.size) u (i + 1)
-        unfolding judged_from
-        judging_next f short u eu k ek = record {
-          at_most = omega arith;
-          long_nums = simp length-set inv.long_nums;
-          long_sizes = simp length-set inv.long_sizes;
-          answer = rw (eu, add-one i) step;
-          packed = λ j q. kept j q (dec_le i j);
-        }
-          where
-            step : judged_from buf (up_after upto (row_in (get_or cells i 0)) here) (drop (suc i) (table_in n cells)) (drop (suc i) rows)
-                ≡ judged_of buf (table_in n cells) rows
-            step = rw (rows_here cells n i h, drop-cons rows i absent_row (omega arith), e, f) at inv.answer
-
-            own : Packed buf (row_in (get_or cells i 0)) here.value here.bits k.num k.size
-            own = rw ek (value_packed buf (row_in (get_or cells i 0)) here.value here.bits e short
-                (fine_fits buf (row_in (get_or cells i 0)) upto here f))
-
-            kept : (j : ℕ) → j < i + 1 → Dec (i ≤ j) → PackedAt buf cells rows (set nums i k.num) (set sizes i k.size) j
-            kept j q (yes d) =
-                let z : j ≡ i = omega arith in
-                rw (
-                  z,
-                  get_or-set_same nums i k.num 0 (omega (arith, inv.long_nums)),
-                  get_or-set_same sizes i k.size 0
-                      (omega (arith, inv.long_sizes)),
-                ) own
-            kept j q (no d) =
-                rw (get_or-set_other nums i j k.num 0 (λ z. omega arith), get_or-set_other sizes i j k.size 0 (λ z. omega arith))
-                (inv.packed j (omega arith))
+pub judged_end : (buf : List ℕ) (upto : ℕ) (cells : List ℕ) (vs : List Row) → (length vs ≡ 0) ⊎ (length cells ≡ 0)
+    → judged_from buf upto (map row_in cells) vs ≡ Fine
+unfolding judged_from
+judged_end buf upto [] vs h = refl
+judged_end buf upto (r ∷ rs) [] h = refl
+judged_end buf upto (r ∷ rs) (v ∷ vs) (inl e) = absurd (omega arith)
+judged_end buf upto (r ∷ rs) (v ∷ vs) (inr e) = absurd (omega arith)

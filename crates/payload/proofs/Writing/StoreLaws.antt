@@ -1,22 +1,28 @@
 -- Stores in the output: a string's, and a row's before those of the rows after it.
 -- Assumes nothing.
 use mathlib.Core.Path.{◌≡◌, sym, ap, ◌∙◌}
-use mathlib.Core.List.{List, [], ◌∷◌, ◌++◌}
-use Prim.Native.Nat.{ℕ, suc, ◌+◌, ◌-◌, ◌<◌, ◌≤◌}
+use mathlib.Core.List.{List, [], ◌∷◌, ◌++◌, append_assoc}
+use Prim.Native.Nat.{ℕ, suc, ◌+◌, ◌<◌, ◌≤◌}
 use native.Mathlib.Omega.{arith}
-use lib.ListN.{length, get_or, set, length-append}
+use lib.ListN.{length, set, length-append}
 use lib.Seq.{sets}
-use borrow.Author.Tests.{le-ltb}
+use borrow.Author.Tests.{le-ltb, ltb-false, eqb-true}
+use Rattle.wire.specs.Number.{big, number_bytes}
+use Rattle.wire.specs.Kind.{size_of, struct}
 use Rattle.wire.specs.Text.{string_bytes}
 use Rattle.wire.specs.Part.{run_of}
 use Rattle.wire.proofs.StoreLaws.{sets_append}
+use Rattle.payload.specs.declared.fine.FineRows.{FineRows}
+use Rattle.payload.specs.declared.row.Value.{Value}
+use Rattle.payload.specs.declared.row.Value.TheVariants.{Bytes, Members}
 use Rattle.payload.specs.Cells.{level_in, kind_in, row_in}
-use Rattle.payload.specs.Writing.{tag_for}
-use Rattle.payload.specs.Parts.{piece, under}
-use Rattle.payload.specs.Columns.{put_in}
-use Rattle.payload.specs.Sizes.{own_len, Columns, rest_in, whole_at}
-use Rattle.payload.proofs.Writing.SizeLaws.{length_run, length_piece, piece_same}
-use Rattle.payload.proofs.Writing.MeasureLaws.{rest_more, rest_end}
+use Rattle.payload.specs.Writing.{leaf, put_of}
+use Rattle.payload.specs.Parts.{under}
+use Rattle.payload.specs.Sizes.{content_len, own_len}
+use Rattle.payload.specs.Fine.{cell_at, value_at, bytes_at, piece_at, held_at, number_member, field_start, content_of}
+use Rattle.payload.proofs.Writing.FineLaws.{Fitting, parts_end, parts_more, row_at, fits_at}
+use Rattle.payload.proofs.Writing.SizeLaws.{length_run, run_kind, length_content, tag_number, tag_field, number_piece, run_piece, branch_piece}
+use Rattle.payload.proofs.Writing.MeasureLaws.{piece_length}
 
 -- mark, text, terminator
 pub text_store : (l buf : List ℕ) (at place len : ℕ) → place + len ≤ length buf
@@ -37,35 +43,65 @@ text_store l buf at place len h =
 
 -- ---- rows
 
-module _ (w ws : ℕ) (buf cells nums sizes : List ℕ) (n : ℕ) (k : Columns w ws n buf cells nums sizes)
-    (whole : (i : ℕ) → i < n → get_or sizes i 0 ≡ whole_at w ws buf cells nums sizes n i) where
-  abbrev pub bytes_from : ℕ → List ℕ
-  bytes_from i = under w 1 (rest_in ws buf cells nums sizes n i)
+module _ (f : FineRows) where
+  pub bytes_end : (i : ℕ) → f.table.now.count ≤ i → bytes_at f i ≡ []
+  unfolding under
+  bytes_end i h = rw (parts_end f i h)
 
-  module _ (i : ℕ) (h : i < n) where
-    abbrev pub piece_at : List ℕ
-    piece_at = piece w (tag_for ws (row_in (get_or cells i 0))) (put_in buf (kind_in (get_or cells i 0)) (get_or nums i 0) (get_or sizes i 0)) (get_or sizes i 0 - 1)
-
-    pub length_piece_at : length piece_at ≡ own_len w (get_or cells i 0) (get_or sizes i 0)
-    length_piece_at = length_piece w ws k.wires (get_or cells i 0) (k.fine i h) buf (get_or nums i 0) (get_or sizes i 0) (k.kept i h)
-        (get_or sizes i 0 - 1)
-
-    pub bytes_more : bytes_from i ≡ piece_at ++ bytes_from (suc i)
+  module _ (i : ℕ) (h : i < f.table.now.count) where
+    bytes_more : bytes_at f i ≡ piece_at f i (held_at f i) ++ bytes_at f (suc i)
     unfolding under
-    bytes_more =
-        rw (rest_more ws buf cells nums sizes n i h, le-ltb (level_in (get_or cells i 0)) 1 (k.level i h))
-        (ap (◌++ bytes_from (suc i))
-        (piece_same w ws k.wires (get_or cells i 0) (k.fine i h) buf (get_or nums i 0) (get_or sizes i 0) (k.kept i h)
-        (length (under w (suc (level_in (get_or cells i 0))) (rest_in ws buf cells nums sizes n (suc i)))) (whole i h)))
+    bytes_more = rw (parts_more f i h, le-ltb (level_in (cell_at f i)) 1 (row_at f i h).level_some)
 
-    pub row_length : length (bytes_from i) ≡ own_len w (get_or cells i 0) (get_or sizes i 0) + length (bytes_from (suc i))
-    row_length = ap length bytes_more ∙ length-append piece_at (bytes_from (suc i)) ∙ ap (◌+ length (bytes_from (suc i))) length_piece_at
+    pub row_length : length (bytes_at f i)
+        ≡ own_len f.table.now.width (kind_in (cell_at f i)) (value_at f i).value + length (bytes_at f (suc i))
+    row_length =
+        ap length bytes_more ∙ length-append (piece_at f i (held_at f i)) (bytes_at f (suc i))
+        ∙ ap (◌+ length (bytes_at f (suc i))) (piece_length f i h (held_at f i))
 
     -- a row's stores, and then those of the rows after it
-    pub row_store : (out : List ℕ) (at : ℕ) → sets (sets out at piece_at) (at + own_len w (get_or cells i 0) (get_or sizes i 0)) (bytes_from (suc i))
-        ≡ sets out at (bytes_from i)
-    row_store out at = rw (← length_piece_at) (sym (sets_append piece_at (bytes_from (suc i)) out at) ∙ ap (sets out at) (sym bytes_more))
+    pub row_store : (n : ℕ) → n ≡ held_at f i → (out : List ℕ) (at : ℕ)
+        → sets (sets out at (piece_at f i n)) (at + own_len f.table.now.width (kind_in (cell_at f i)) (value_at f i).value) (bytes_at f (suc i))
+        ≡ sets out at (bytes_at f i)
+    row_store n e out at =
+        rw (← piece_length f i h n, e)
+        (sym (sets_append (piece_at f i (held_at f i)) (bytes_at f (suc i)) out at) ∙ ap (sets out at) (sym bytes_more))
 
-  pub bytes_end : (i : ℕ) → n ≤ i → bytes_from i ≡ []
-  unfolding under
-  bytes_end i h = rw (rest_end ws buf cells nums sizes n i h)
+-- ---- a row's member, by its value
+
+module _ (f : FineRows) (i : ℕ) (h : i < f.table.now.count) (u : Value) (e : (value_at f i).value ≡ u) where
+  pub fits_now : Fitting f.content.now (row_in (cell_at f i)) u (value_at f i).bits
+  fits_now = rw e at (fits_at f i h)
+
+  pub number_stored : kind_in (cell_at f i) < 12 → (num : ℕ)
+      → put_of f.content.now (row_in (cell_at f i)) u (value_at f i).bits ≡ leaf (number_bytes big (size_of (kind_in (cell_at f i))) num) → (n : ℕ)
+      → number_member (cell_at f i) num ≡ piece_at f i n
+  number_stored k num p n =
+      let r = row_at f i h in
+      let t = tag_number f.table.now.width f.wire f.wires (row_in (cell_at f i)) r k in
+      let q = number_piece f.table.now.width f.wire f.wires (row_in (cell_at f i)) r (number_bytes big (size_of (kind_in (cell_at f i))) num) n k in
+      rw (e, p, q, t)
+
+pub bytes_stored : (f : FineRows) (i : ℕ) (h : i < f.table.now.count) (place len : ℕ) → (value_at f i).value ≡ Bytes place len → (n : ℕ)
+    → field_start f (cell_at f i) (content_len (kind_in (cell_at f i)) (Bytes place len) 0) ++ content_of f (cell_at f i) place len ≡ piece_at f i n
+unfolding put_of
+bytes_stored f i h place len e n =
+    let r = row_at f i h in
+    let k = fits_now f i h (Bytes place len) e in
+    let b = run_kind f.content.now (row_in (cell_at f i)) place len k.fits in
+    let t = tag_field f.table.now.width f.wire f.wires (row_in (cell_at f i)) r b in
+    let c = content_of f (cell_at f i) place len in
+    let l = length_content f.content.now (row_in (cell_at f i)) place len (ltb-false (length f.content.now) (place + len) k.inside) in
+    let q = run_piece f.table.now.width f.wire f.wires (row_in (cell_at f i)) r c n b in
+    rw (e, q, t, l, append_assoc)
+
+pub members_stored : (f : FineRows) (i : ℕ) (h : i < f.table.now.count) → (value_at f i).value ≡ Members → (n : ℕ)
+    → field_start f (cell_at f i) n ≡ piece_at f i n
+unfolding put_of
+members_stored f i h e n =
+    let r = row_at f i h in
+    let k = fits_now f i h Members e in
+    let b = eqb-true (kind_in (cell_at f i)) struct k.fits in
+    let t = tag_field f.table.now.width f.wire f.wires (row_in (cell_at f i)) r (omega arith) in
+    let q = branch_piece f.table.now.width f.wire f.wires (row_in (cell_at f i)) r n (omega arith) in
+    rw (e, q, t)

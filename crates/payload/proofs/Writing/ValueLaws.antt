@@ -21,10 +21,10 @@ use Rattle.wire.specs.Part.{run_of}
 use Rattle.payload.specs.declared.table.TypeRow.{TypeRow}
 use Rattle.payload.specs.Table.{in_range}
 use Rattle.payload.specs.Judging.{unsigned_fits, signed_in, signed_fits, float_fits, run_fits}
-use Rattle.payload.specs.Columns.{flip_of}
+use Rattle.payload.specs.Judging.{flip_of}
 use Rattle.wire.proofs.NumberLaws.{pow_bytes}
-use Rattle.wire.proofs.KindLaws.{number_some}
-use Rattle.payload.proofs.Joined.{refuted}
+use Rattle.wire.proofs.KindLaws.{size_small, number_some}
+use Rattle.payload.proofs.Joined.{and_left, and_right, refuted}
 use Rattle.payload.proofs.Rules.RowLaws.{range_in, in_range_lem}
 
 -- ---- kinds
@@ -115,6 +115,18 @@ module _ (k : ℕ) (z : ℤ) where
   signed_in_lem least most fits s es f ef b e =
       rw (in_range_lem 6 9 k least most, flip_in (size_of k) z fits) (e ∙ rw
       (es, ef, half_bytes (size_of k) (number_some k (omega arith) (omega arith))))
+
+half_most : (w : ℕ) → w ≤ 8 → half w ≤ 9223372036854775808
+half_most w h = pow-le-pow_right {n = 2} (omega arith) {i = 8 * w - 1} {j = 63} (omega arith)
+
+-- a signed number that fits a kind has eight bytes at most
+pub signed_small : (k : ℕ) (z : ℤ) → signed_fits k z ≡ true → SFits w64 z
+unfolding signed_fits
+signed_small k z e = go z (range_in 6 9 k (and_left (in_range 6 9 k) (signed_in (size_of k) z) e)) (and_right (in_range 6 9 k) (signed_in (size_of k) z) e)
+  where
+    go : (z : ℤ) → (6 ≤ k) × (k ≤ 9) → signed_in (size_of k) z ≡ true → SFits w64 z
+    go (pos n) h e = record { sfits = omega (arith, ltb-true n (half (size_of k)) e, half_most (size_of k) (size_small k (omega arith))) }
+    go (negsuc n) h e = record { sfits = omega (arith, ltb-true n (half (size_of k)) e, half_most (size_of k) (size_small k (omega arith))) }
 
 -- ---- each answer of the test of runs
 

@@ -37,8 +37,8 @@ use Rattle.wire.specs.declared.verdict.Verdict.TheVariants.{
 }
 use Rattle.payload.specs.declared.table.Table.{Table}
 use Rattle.payload.specs.declared.row.Row.{Row}
-use Rattle.payload.specs.declared.judge.Judged.{Judged}
-use Rattle.payload.specs.declared.judge.Judged.TheVariants.{Fine, Outside, Unfit}
+use Rattle.payload.specs.Judging.{Judged}
+use Rattle.payload.specs.Judging.{Fine, Outside, Unfit}
 use Rattle.payload.specs.Table.{type_rows, table_fits}
 use Rattle.payload.specs.Reading.{payload_most}
 use Rattle.payload.specs.Judging.{judged_of}

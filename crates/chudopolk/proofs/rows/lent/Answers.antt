@@ -1,9 +1,7 @@
 -- `chudopolk::rows::lent` meets its contract.
-use Rattle.chudopolk.proofs.ValueLaws.{lent_all, lent_most}
+use mathlib.Core.Path.{◌∙◌}
+use Rattle.chudopolk.proofs.ValueLaws.{lent_min}
 use Rattle.chudopolk.proofs.rows.lent.Goals as goal
 
-pub returns-then-n-gt64 : goal.returns-then-n-gt64
-returns-then-n-gt64 c = lent_most _ c.if-n-gt64.true
-
 pub returns : goal.returns
-returns c = lent_all _ c.if-n-gt64.false
+returns c = c.min.ensures ∙ lent_min c.args.len

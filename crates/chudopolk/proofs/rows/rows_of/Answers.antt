@@ -8,13 +8,14 @@ use Rattle.chudopolk.proofs.rows.rows_of.Goals as goal
 pub loop-i-init : goal.loop-i-init
 loop-i-init c =
     let within = lent_within _ _ c.lent-n.ensures in
-    (omega arith, within.0, within.1, rows_up_to_none _ _ c.plain-rows.ensures)
+    record { few = within.0; held = within.1; made = rows_up_to_none _ _ c.plain-rows.ensures }
 
 pub loop-i-preserved : goal.loop-i-preserved
-loop-i-preserved c = (omega arith, omega arith, omega arith, rows_up_to_more _ _ _ _ c.loop-i.invariant.3 c.row_at-row.ensures)
+loop-i-preserved c =
+    let loop = c.loop-i.invariant in
+    record { few = loop.few; held = loop.held; made = rows_up_to_more _ _ _ _ loop.made c.row_at.ensures }
 
 pub returns : goal.returns
 returns c =
-    let values = c.args.values.now in
     let done : c.loop-i.i ≡ c.lent-n.result = omega arith in
-    rows_of_is _ _ _ c.lent-n.ensures (c.loop-i.invariant.3 ∙ ap (λ (m : ℕ). rows_up_to m values) done)
+    rows_of_is _ _ _ c.lent-n.ensures (c.loop-i.invariant.made ∙ ap (λ (m : ℕ). rows_up_to m c.args.values.now) done)

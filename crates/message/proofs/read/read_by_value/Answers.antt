@@ -1,20 +1,28 @@
--- `message::read::read_by_value` meets its contract: the verdicts before the payload's, then what the payload answers.
+-- `message::read::read_by_value` meets its contract: the tests in their order, then the header and the payload.
+use mathlib.Core.Path.{sym, ◌∙◌}
+use Rattle.message.proofs.ReadLaws.{no_kind, no_table, no_room, no_end, an_end}
 use Rattle.message.proofs.read.read_by_value.Goals as goal
 
-pub slice_bounds-read_after-count : goal.slice_bounds-read_after-count
-slice_bounds-read_after-count c = c.opened-o.ensures.onward
+pub returns-then-not-is_one : goal.returns-then-not-is_one
+returns-then-not-is_one c = c.unheaded.ensures ∙ no_kind _ _ _ _ (sym c.is_one.ensures ∙ c.if-not-is_one.true)
 
-pub slice_bounds-read_after-start : goal.slice_bounds-read_after-start
-slice_bounds-read_after-start c = c.opened-o.ensures.onward
+pub returns-in_default : goal.returns-in_default
+returns-in_default c =
+    c.unheaded-in_default.ensures ∙ no_table _ _ _ _ (sym c.is_one.ensures ∙ c.if-not-is_one.false) (rw c.in_default.is at c.of-checked.ensures)
 
-pub slice_bounds-read_after-end : goal.slice_bounds-read_after-end
-slice_bounds-read_after-end c = c.opened-o.ensures.inside
+pub returns-then-room-table : goal.returns-then-room-table
+returns-then-room-table c =
+    c.unheaded-then-room-table.ensures
+    ∙ no_room _ _ _ _ (sym c.is_one.ensures ∙ c.if-not-is_one.false) c.in-Some.table (rw c.in-Some.is at c.of-checked.ensures) c.if-room-table.true
 
-pub read_after-reading-requires : goal.read_after-reading-requires
-read_after-reading-requires c = c.opened-o.ensures.admits
+pub returns-in-Err : goal.returns-in-Err
+returns-in-Err c =
+    c.unheaded-in-Err.ensures
+    ∙ no_end _ _ _ _ (sym c.is_one.ensures ∙ c.if-not-is_one.false) c.in-Some.table (rw c.in-Some.is at c.of-checked.ensures) c.if-room-table.false
+    _ (sym c.message_end.ensures.is ∙ c.in-Err.is)
 
-pub head_of-requires : goal.head_of-requires
-head_of-requires c = c.opened-o.ensures.ends
-
-pub returns : goal.returns
-returns c = c.opened-o.ensures.reads _ c.read_after-reading.ensures _ c.head_of.ensures
+pub returns-in-Ok : goal.returns-in-Ok
+returns-in-Ok c =
+    c.headed.ensures
+    ∙ an_end _ _ _ _ (sym c.is_one.ensures ∙ c.if-not-is_one.false) c.in-Some.table (rw c.in-Some.is at c.of-checked.ensures) c.if-room-table.false
+    _ (sym c.message_end.ensures.is ∙ c.in-Ok.is)

@@ -1,10 +1,7 @@
--- After i turns the first i rows are stored.
-use Rattle.std.proofs.Common.{◌≡◌, ◌≤◌, ◌-◌}
+-- `message::rows::put_rows` meets its contract. The loop's invariant: the first `i` rows are stored.
+use Rattle.std.proofs.Common.{◌≡◌}
 use Rattle.message.specs.Rows.{copied}
 use Rattle.message.proofs.rows.put_rows.Given as goal
 
 abbrev pub invariant-loop-i : goal.invariant-loop-i
-invariant-loop-i l = (l.i ≤ l.n) × (l.out ≡ copied l.i l.rows l.initial.out)
-
-abbrev pub decreases-loop-i : goal.decreases-loop-i
-decreases-loop-i l = l.n - l.i
+invariant-loop-i l = l.out ≡ copied l.i l.rows l.initial.out

@@ -1,139 +1,129 @@
--- `payload::emit::put_row` meets its contract: its stores, in the order of the code, are those of the member.
-use mathlib.Core.Path.{◌≡◌, sym, ap, ◌∙◌}
-use Prim.Native.Nat.{◌+◌, ◌-◌, ◌≤◌, ◌<◌}
-use native.Mathlib.Nat.{add-zero}
-use native.Mathlib.Omega.{arith}
-use Rattle.wire.specs.Number.{big, number_bytes}
-use Rattle.wire.specs.Kind.{struct}
+-- `payload::emit::put_row` meets its contract, value by value.
+use Rattle.std.proofs.Common.{◌+◌, length, refl, sym, ap, arith}
+use lib.Seq.{sets}
+use mir.Facts.{to_z-of_z}
+use borrow.Author.Tests.{ltb-false}
+use Rattle.wire.specs.Number.{twos_of}
+use Rattle.payload.specs.declared.row.Value.TheVariants.{Unsigned, Signed, Float32, Float64, Bytes}
 use Rattle.payload.specs.Cells.{kind_in, row_in}
-use Rattle.payload.specs.Writing.{tag_for}
-use Rattle.payload.specs.Columns.{content_in}
-use Rattle.wire.proofs.NumberLaws.{length_number_bytes}
-use Rattle.wire.proofs.StoreLaws.{two_stores, three_stores}
-use Rattle.payload.proofs.Writing.SizeLaws.{own_none, own_number, own_branch, own_run, own_field, own_least, piece_none, piece_number, piece_branch, piece_run}
+use Rattle.payload.specs.Writing.{leaf, put_of}
+use Rattle.payload.specs.Parts.{piece}
+use Rattle.payload.specs.Fine.{cell_at, value_at}
+use Rattle.payload.proofs.Writing.ValueLaws.{signed_small}
+use Rattle.payload.proofs.Writing.SizeLaws.{unsigned_kind, signed_kind, signed_bytes, float_kind}
+use Rattle.payload.proofs.Writing.StoreLaws.{fits_now, number_stored, bytes_stored, members_stored}
 use Rattle.payload.proofs.emit.put_row.Goals as goal
 
-pub returns-then-size-eq0 : goal.returns-then-size-eq0
-returns-then-size-eq0 c =
-    let a = c.args in
-    let e = c.if-size-eq0.true in
-    record {
-      next = sym (ap (a.at +◌) (own_none a.width a.cell a.size e) ∙ add-zero a.at);
-      output = rw
-          (piece_none a.width a.ws c.requires.2 a.cell c.requires.0 a.content.now a.num a.size c.requires.1 (a.size - 1) e);
-    }
+pub returns-in-Absent-clause-output : goal.returns-in-Absent-clause-output
+unfolding put_of piece
+returns-in-Absent-clause-output c = rw c.in-Absent.is
 
-pub write_number-requires : goal.write_number-requires
-write_number-requires c =
-    let a = c.args in
-    (omega (arith, own_least a.width a.cell a.size c.if-size-eq0.false, c.requires.3), omega arith)
+pub put_number-requires : goal.put_number-requires
+put_number-requires c =
+    let f = c.args.fine.now in
+    let i = c.args.i in
+    let e = c.in-Unsigned.is in
+    let k = fits_now f i c.requires.0 (Unsigned c.in-Unsigned.n) e in (
+      c.cell-cell.ensures.fine,
+      rw c.cell-cell.ensures.is (unsigned_kind f.content.now (row_in (cell_at f i)) c.in-Unsigned.n k.fits),
+      rw c.cell-cell.ensures.is (rw e at c.requires.1),
+    )
 
-pub write_number-requires-then-k-lt-STRING : goal.write_number-requires-then-k-lt-STRING
-write_number-requires-then-k-lt-STRING c =
-    let a = c.args in
-    let h : kind_in a.cell < 12 = rw c.kind_in-k.ensures at c.if-k-lt-STRING.true in
-    (omega (arith, own_number a.width a.cell a.size c.if-size-eq0.false h, c.if-size-eq0.false, c.requires.3), omega (arith, c.requires.1.number h))
+pub returns-in-Unsigned-clause-output : goal.returns-in-Unsigned-clause-output
+unfolding put_of
+returns-in-Unsigned-clause-output c =
+    let f = c.args.fine.now in
+    let i = c.args.i in
+    let n = c.in-Unsigned.n in
+    let k = fits_now f i c.requires.0 (Unsigned n) c.in-Unsigned.is in
+    rw (c.put_number.ensures.output, c.cell-cell.ensures.is)
+    (ap (sets c.args.out.now c.args.at) (number_stored f i c.requires.0 (Unsigned n) c.in-Unsigned.is
+    (unsigned_kind f.content.now (row_in (cell_at f i)) n k.fits) n refl c.args.held))
 
-pub overflow_add-result : goal.overflow_add-result
-overflow_add-result c =
-    let a = c.args in
-    let h : kind_in a.cell < 12 = rw c.kind_in-k.ensures at c.if-k-lt-STRING.true in
-    omega (arith, c.requires.1.number h)
+pub put_number-requires-in-Signed : goal.put_number-requires-in-Signed
+put_number-requires-in-Signed c =
+    let f = c.args.fine.now in
+    let i = c.args.i in
+    let e = c.in-Signed.is in
+    let k = fits_now f i c.requires.0 (Signed c.in-Signed.z) e in (
+      c.cell-cell.ensures.fine,
+      rw c.cell-cell.ensures.is (signed_kind f.content.now (row_in (cell_at f i)) c.in-Signed.z k.fits),
+      rw c.cell-cell.ensures.is (rw e at c.requires.1),
+    )
 
-pub overflow_add-result-then-k-lt-STRING : goal.overflow_add-result-then-k-lt-STRING
-overflow_add-result-then-k-lt-STRING c =
-    let a = c.args in
-    let h : kind_in a.cell < 12 = rw c.kind_in-k.ensures at c.if-k-lt-STRING.true in
-    omega (arith, c.requires.1.number h, own_number a.width a.cell a.size c.if-size-eq0.false h, c.requires.3)
+pub returns-in-Signed-clause-output : goal.returns-in-Signed-clause-output
+unfolding put_of
+returns-in-Signed-clause-output c =
+    let f = c.args.fine.now in
+    let i = c.args.i in
+    let z = c.in-Signed.z in
+    let k = fits_now f i c.requires.0 (Signed z) c.in-Signed.is in
+    let w = to_z-of_z (signed_small (kind_in (cell_at f i)) z k.fits) in
+    rw (c.put_number-in-Signed.ensures.output, c.cell-cell.ensures.is, c.twos_of.ensures, w)
+    (ap (sets c.args.out.now c.args.at) (number_stored f i c.requires.0 (Signed z) c.in-Signed.is
+    (signed_kind f.content.now (row_in (cell_at f i)) z k.fits) (twos_of 8 z)
+    (ap leaf (sym (signed_bytes f.content.now (row_in (cell_at f i)) z k.fits))) c.args.held))
 
-pub returns-then-k-lt-STRING : goal.returns-then-k-lt-STRING
-returns-then-k-lt-STRING c =
-    let a = c.args in
-    let h : kind_in a.cell < 12 = rw c.kind_in-k.ensures at c.if-k-lt-STRING.true in
-    let some : 0 < a.size = omega (arith, c.if-size-eq0.false) in
-    record {
-      next = ap (a.at +◌) (sym (own_number a.width a.cell a.size c.if-size-eq0.false h));
-      output = rw (
-        c.write_number-then-k-lt-STRING.ensures,
-        c.write_number.ensures,
-        c.tag_for.ensures,
-        piece_number a.width a.ws c.requires.2
-            a.cell c.requires.0 a.content.now a.num a.size c.requires.1 some (a.size - 1) h,
-      )
-          (two_stores a.out.now (number_bytes big 2 (tag_for a.ws (row_in a.cell))) (number_bytes big (a.size - 1) a.num) a.at 2
-          (length_number_bytes 2 (tag_for a.ws (row_in a.cell))));
-    }
+pub put_number-requires-in-Float32 : goal.put_number-requires-in-Float32
+put_number-requires-in-Float32 c =
+    let f = c.args.fine.now in
+    let i = c.args.i in
+    let e = c.in-Float32.is in
+    let k = fits_now f i c.requires.0 (Float32 c.in-Float32.field-0) e in (
+      c.cell-cell.ensures.fine,
+      rw c.cell-cell.ensures.is (float_kind f.content.now (row_in (cell_at f i)) 10 (value_at f i).bits (omega arith) k.fits),
+      rw c.cell-cell.ensures.is (rw e at c.requires.1),
+    )
 
-pub write_number-requires-2 : goal.write_number-requires-2
-write_number-requires-2 c =
-    let a = c.args in
-    let h : 12 ≤ kind_in a.cell = rw c.kind_in-k.ensures at c.if-k-lt-STRING.false in
-    (omega (arith, own_field a.width a.cell a.size c.if-size-eq0.false h, c.requires.3), omega (arith, c.requires.2.few))
+pub returns-in-Float32-clause-output : goal.returns-in-Float32-clause-output
+unfolding put_of
+returns-in-Float32-clause-output c =
+    let f = c.args.fine.now in
+    let i = c.args.i in
+    let k = fits_now f i c.requires.0 (Float32 c.in-Float32.field-0) c.in-Float32.is in
+    rw (c.put_number-in-Float32.ensures.output, c.cell-cell.ensures.is)
+    (ap (sets c.args.out.now c.args.at) (number_stored f i c.requires.0 (Float32 c.in-Float32.field-0) c.in-Float32.is
+    (float_kind f.content.now (row_in (cell_at f i)) 10 (value_at f i).bits (omega arith) k.fits) (value_at f i).bits refl c.args.held))
 
-pub returns-then-k-eq-STRUCT : goal.returns-then-k-eq-STRUCT
-returns-then-k-eq-STRUCT c =
-    let a = c.args in
-    let k : kind_in a.cell ≡ struct = sym c.kind_in-k.ensures ∙ c.if-k-eq-STRUCT.true in
-    let some : 0 < a.size = omega (arith, c.if-size-eq0.false) in
-    record {
-      next = ap (a.at +◌) (sym (own_branch a.width a.cell a.size c.if-size-eq0.false k));
-      output = rw (
-        c.write_number-2.ensures,
-        c.write_number.ensures,
-        c.tag_for.ensures,
-        piece_branch a.width a.ws
-            c.requires.2 a.cell c.requires.0 a.content.now a.num a.size c.requires.1 some (a.size - 1) k,
-      )
-          (two_stores a.out.now (number_bytes big 2 (tag_for a.ws (row_in a.cell))) (number_bytes big a.width (a.size - 1)) a.at 2
-          (length_number_bytes 2 (tag_for a.ws (row_in a.cell))));
-    }
+pub put_number-requires-in-Float64 : goal.put_number-requires-in-Float64
+put_number-requires-in-Float64 c =
+    let f = c.args.fine.now in
+    let i = c.args.i in
+    let e = c.in-Float64.is in
+    let k = fits_now f i c.requires.0 (Float64 c.in-Float64.field-0) e in (
+      c.cell-cell.ensures.fine,
+      rw c.cell-cell.ensures.is (float_kind f.content.now (row_in (cell_at f i)) 11 (value_at f i).bits (omega arith) k.fits),
+      rw c.cell-cell.ensures.is (rw e at c.requires.1),
+    )
 
-pub put_content-requires : goal.put_content-requires
-put_content-requires c =
-    let a = c.args in
-    let h : 12 ≤ kind_in a.cell = rw c.kind_in-k.ensures at c.if-k-lt-STRING.false in
-    let k : kind_in a.cell ≡ struct → ⊥ = λ e. c.if-k-eq-STRUCT.false (c.kind_in-k.ensures ∙ e) in
-    let some : 0 < a.size = omega (arith, c.if-size-eq0.false) in
-    (c.requires.0, c.requires.1, h, k, some, omega (arith, own_run a.width a.cell a.size c.if-size-eq0.false h k, c.requires.3))
+pub returns-in-Float64-clause-output : goal.returns-in-Float64-clause-output
+unfolding put_of
+returns-in-Float64-clause-output c =
+    let f = c.args.fine.now in
+    let i = c.args.i in
+    let k = fits_now f i c.requires.0 (Float64 c.in-Float64.field-0) c.in-Float64.is in
+    rw (c.put_number-in-Float64.ensures.output, c.cell-cell.ensures.is)
+    (ap (sets c.args.out.now c.args.at) (number_stored f i c.requires.0 (Float64 c.in-Float64.field-0) c.in-Float64.is
+    (float_kind f.content.now (row_in (cell_at f i)) 11 (value_at f i).bits (omega arith) k.fits) (value_at f i).bits refl c.args.held))
 
-pub overflow_add-result-2 : goal.overflow_add-result-2
-overflow_add-result-2 c =
-    let a = c.args in
-    let h : 12 ≤ kind_in a.cell = rw c.kind_in-k.ensures at c.if-k-lt-STRING.false in
-    let k : kind_in a.cell ≡ struct → ⊥ = λ e. c.if-k-eq-STRUCT.false (c.kind_in-k.ensures ∙ e) in
-    omega (arith, own_run a.width a.cell a.size c.if-size-eq0.false h k, c.requires.3)
+pub put_bytes-requires : goal.put_bytes-requires
+put_bytes-requires c =
+    let f = c.args.fine.now in
+    let i = c.args.i in
+    let e = c.in-Bytes.is in
+    let k = fits_now f i c.requires.0 (Bytes c.in-Bytes.place c.in-Bytes.len) e in (
+      c.cell-cell.ensures.fine,
+      ltb-false (length f.content.now) (c.in-Bytes.place + c.in-Bytes.len) k.inside,
+      rw c.cell-cell.ensures.is (rw e at c.requires.1),
+    )
 
-pub overflow_add-result-3 : goal.overflow_add-result-3
-overflow_add-result-3 c =
-    let a = c.args in
-    let h : 12 ≤ kind_in a.cell = rw c.kind_in-k.ensures at c.if-k-lt-STRING.false in
-    let k : kind_in a.cell ≡ struct → ⊥ = λ e. c.if-k-eq-STRUCT.false (c.kind_in-k.ensures ∙ e) in
-    omega (arith, own_run a.width a.cell a.size c.if-size-eq0.false h k, c.requires.3)
+pub returns-in-Bytes-clause-output : goal.returns-in-Bytes-clause-output
+returns-in-Bytes-clause-output c =
+    rw (c.put_bytes.ensures.output, c.cell-cell.ensures.is)
+    (ap (sets c.args.out.now c.args.at)
+    (bytes_stored c.args.fine.now c.args.i c.requires.0 c.in-Bytes.place c.in-Bytes.len c.in-Bytes.is c.args.held))
 
-pub overflow_add-result-4 : goal.overflow_add-result-4
-overflow_add-result-4 c =
-    let a = c.args in
-    let h : 12 ≤ kind_in a.cell = rw c.kind_in-k.ensures at c.if-k-lt-STRING.false in
-    let k : kind_in a.cell ≡ struct → ⊥ = λ e. c.if-k-eq-STRUCT.false (c.kind_in-k.ensures ∙ e) in
-    omega (arith, own_run a.width a.cell a.size c.if-size-eq0.false h k, c.requires.3)
-
-pub returns : goal.returns
-returns c =
-    let a = c.args in
-    let h : 12 ≤ kind_in a.cell = rw c.kind_in-k.ensures at c.if-k-lt-STRING.false in
-    let k : kind_in a.cell ≡ struct → ⊥ = λ e. c.if-k-eq-STRUCT.false (c.kind_in-k.ensures ∙ e) in
-    let some : 0 < a.size = omega (arith, c.if-size-eq0.false) in
-    record {
-      next = ap (a.at +◌) (sym (own_run a.width a.cell a.size c.if-size-eq0.false h k));
-      output = rw (
-        c.put_content.ensures,
-        c.write_number-2.ensures,
-        c.write_number.ensures,
-        c.tag_for.ensures,
-        piece_run
-            a.width a.ws c.requires.2 a.cell c.requires.0 a.content.now a.num a.size c.requires.1 some (a.size - 1) h k,
-      )
-          (three_stores a.out.now (number_bytes big 2 (tag_for a.ws (row_in a.cell))) (number_bytes big a.width (a.size - 1))
-          (content_in a.content.now (kind_in a.cell) a.num a.size)
-          a.at 2 a.width (length_number_bytes 2 (tag_for a.ws (row_in a.cell))) (length_number_bytes a.width (a.size - 1)));
-    }
+pub returns-in-Members-clause-output : goal.returns-in-Members-clause-output
+returns-in-Members-clause-output c =
+    rw (c.put_field.ensures.output, c.cell-cell.ensures.is)
+    (ap (sets c.args.out.now c.args.at) (members_stored c.args.fine.now c.args.i c.requires.0 c.in-Members.is c.args.held))

@@ -1,43 +1,50 @@
 -- `payload::judge::judge_rows` meets its contract, row by row.
-use Rattle.std.proofs.Common.{◌≤◌, ◌<◌, length, refl, sym, ◌∙◌, arith}
-use Rattle.payload.proofs.Writing.JudgeLaws.{judging_none, judging_end, judging_outside, judging_unfit, judging_next}
+use Rattle.std.proofs.Common.{◌≡◌, suc, ◌≤◌, length, ◌⊎◌, inl, inr, sym, ◌∙◌, arith}
+use Rattle.payload.proofs.Writing.JudgeLaws.{judged_start, fine_start, judged_outside, judged_unfit, judged_next, judged_end}
 use Rattle.payload.proofs.judge.judge_rows.Goals as goal
 
-pub loop-i-init : goal.loop-i-init
-loop-i-init c = judging_none _ _ _ _ _ _ _ _ refl refl c.requires.1 c.requires.2
+pub loop-row-init : goal.loop-row-init
+loop-row-init c =
+    let t = c.args.table.now in
+    let long : t.count ≤ length t.cells = omega arith in
+    let z = c.zip-row-items.ensures in
+    let a = c.into_iter-row-iterator.ensures.into_iter_gives in
+    record {
+      decides = rw (a, z.first, c.iter.ensures.rest, z.second.0) (judged_start c.args.content.now t.count t.cells c.args.rows.now long);
+      fine = rw (a, z.second.0) (fine_start t.count t.cells t.sound.fine);
+    }
 
-pub returns-then-is_outside-clause-answer : goal.returns-then-is_outside-clause-answer
-returns-then-is_outside-clause-answer c =
-    let t = c.loop-i in
-    let held : c.args.count ≤ length c.args.rows = omega arith in
-    judging_outside c.args.content.now c.args.cells.now c.args.rows c.args.count t.nums t.sizes t.upto t.i t.invariant
-    c.requires.0.few held c.loop-i-test.true
-    (sym c.is_outside.ensures ∙ c.if-is_outside.true)
+pub returns-then-is_outside : goal.returns-then-is_outside
+returns-then-is_outside c =
+    let s = c.in-Some.ensures.steps in
+    let d = rw (s.0, s.1) at c.loop-row.invariant.decides in
+    rw (sym d ∙ judged_outside _ _ _ _ _ _ (sym c.is_outside.ensures ∙ c.if-is_outside.true))
 
-pub returns-then-not-row_fine-clause-answer : goal.returns-then-not-row_fine-clause-answer
-returns-then-not-row_fine-clause-answer c =
-    let t = c.loop-i in
-    let held : c.args.count ≤ length c.args.rows = omega arith in
-    judging_unfit c.args.content.now c.args.cells.now c.args.rows c.args.count t.nums t.sizes t.upto t.i t.invariant
-    c.requires.0.few held c.loop-i-test.true
-    (sym c.is_outside.ensures ∙ c.if-is_outside.false)
-    (sym c.row_fine.ensures ∙ c.if-not-row_fine.true)
+pub row_fine-requires : goal.row_fine-requires
+row_fine-requires c =
+    let s = c.in-Some.ensures.steps in
+    let f = rw s.1 at c.loop-row.invariant.fine in
+    (f 0 (omega arith), sym c.is_outside.ensures ∙ c.if-is_outside.false)
 
-pub loop-i-preserved : goal.loop-i-preserved
-loop-i-preserved c =
-    let t = c.loop-i in
-    let held : c.args.count ≤ length c.args.rows = omega arith in
-    let short : length c.args.content.now < 9223372036854775808 = omega (arith, c.well_formed) in
-    judging_next c.args.content.now c.args.cells.now c.args.rows c.args.count t.nums t.sizes t.upto t.i t.invariant
-    c.requires.0.few held c.loop-i-test.true
-    (sym c.is_outside.ensures ∙ c.if-is_outside.false)
-    (sym c.row_fine.ensures ∙ c.if-not-row_fine.false)
-    short
-    _ c.up_after-upto.ensures
-    _ c.held_of-h.ensures
+pub returns-then-not-row_fine : goal.returns-then-not-row_fine
+returns-then-not-row_fine c =
+    let s = c.in-Some.ensures.steps in
+    let d = rw (s.0, s.1) at c.loop-row.invariant.decides in
+    rw (sym d ∙ judged_unfit _ _ _ _ _ _ (sym c.is_outside.ensures ∙ c.if-is_outside.false) (sym c.row_fine.ensures ∙ c.if-not-row_fine.true))
 
-pub returns-clause-answer : goal.returns-clause-answer
-returns-clause-answer c =
-    let t = c.loop-i in
-    judging_end c.args.content.now c.args.cells.now c.args.rows c.args.count t.nums t.sizes t.upto t.i t.invariant
-    c.loop-i-test.false
+pub loop-row-preserved : goal.loop-row-preserved
+loop-row-preserved c =
+    let s = c.in-Some.ensures.steps in
+    let d = rw (s.0, s.1) at c.loop-row.invariant.decides in
+    let f = rw s.1 at c.loop-row.invariant.fine in
+    record {
+      decides = rw c.up_after-upto.ensures
+          (sym (judged_next _ _ _ _ _ _ (sym c.is_outside.ensures ∙ c.if-is_outside.false) (sym c.row_fine.ensures ∙ c.if-not-row_fine.false)) ∙ d);
+      fine = λ k h. f (suc k) (omega arith);
+    }
+
+pub returns : goal.returns
+returns c =
+    let some : (length c.loop-row.row-iterator.a.rest.now ≡ 0) ⊎ (length c.loop-row.row-iterator.b.rest.now ≡ 0)
+    = elim c.in-None.ensures.steps [ inl x ↦ inl x.1.0 | inr x ↦ inr x.1.0 ] in
+    rw (sym c.loop-row.invariant.decides ∙ judged_end c.args.content.now c.loop-row.upto _ _ some)

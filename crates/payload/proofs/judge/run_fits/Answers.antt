@@ -6,33 +6,23 @@ use native.Mathlib.Omega.{arith}
 use Rattle.wire.specs.Kind.{size_of}
 use Rattle.wire.specs.Text.{text_fits}
 use Rattle.wire.proofs.PartLaws.{cut_slice}
-use Rattle.payload.specs.Cells.{elem_in, row_in}
-use Rattle.wire.proofs.KindLaws.{number_some}
+use Rattle.payload.specs.Cells.{kind_in, row_in}
 use Rattle.payload.proofs.Writing.ValueLaws.{run_text, run_other, run_array}
 use Rattle.payload.proofs.judge.run_fits.Goals as goal
 
-pub returns-then-k-eq-STRING : goal.returns-then-k-eq-STRING
-returns-then-k-eq-STRING c =
+pub returns-in-12 : goal.returns-in-12
+returns-in-12 c =
     let a = c.args in
-    run_text a.content.now (row_in a.cell) a.place a.len (sym c.kind_in-k.ensures ∙ c.if-k-eq-STRING.true) _
+    run_text a.content.now (row_in a.cell) a.place a.len (sym c.kind_in.ensures ∙ c.in-12.is) _
     (c.text_fits.ensures ∙ ap (λ (l : List ℕ). text_fits l) (cut_slice a.place (a.place + a.len) a.content.now (omega arith)))
 
-pub returns-then-k-ne-ARRAY : goal.returns-then-k-ne-ARRAY
-returns-then-k-ne-ARRAY c =
+pub returns-in-13 : goal.returns-in-13
+returns-in-13 c =
     let a = c.args in
-    run_other a.content.now (row_in a.cell) a.place a.len
-    (λ e. c.if-k-eq-STRING.false (c.kind_in-k.ensures ∙ e)) (λ e. c.if-k-ne-ARRAY.true (c.kind_in-k.ensures ∙ e))
+    let k : kind_in a.cell ≡ 13 = sym c.kind_in.ensures ∙ c.in-13.is in
+    run_array a.content.now (row_in a.cell) a.place a.len (λ e. omega arith) k _ (c.size_of.ensures.0 ∙ ap size_of c.elem_in.ensures)
 
-pub nonzero_rem-result : goal.nonzero_rem-result
-nonzero_rem-result c =
-    let k = c.kind_in-k in
-    let e : c.size_of.result ≡ size_of (elem_in c.args.cell) = c.size_of.ensures.0 ∙ ap size_of c.elem_in.ensures in
-    let f = c.requires.0 in
-    rw e (number_some (elem_in c.args.cell) (f.array_in (sym k.ensures ∙ c.if-k-ne-ARRAY.false)) f.elem_in_lem)
-
-pub returns : goal.returns
-returns c =
+pub returns-in_default : goal.returns-in_default
+returns-in_default c =
     let a = c.args in
-    let k = c.kind_in-k in
-    run_array a.content.now (row_in a.cell) a.place a.len (λ e. c.if-k-eq-STRING.false (k.ensures ∙ e))
-    (sym k.ensures ∙ c.if-k-ne-ARRAY.false) _ (c.size_of.ensures.0 ∙ ap size_of c.elem_in.ensures)
+    run_other a.content.now (row_in a.cell) a.place a.len (λ e. omega arith) (λ e. omega arith)

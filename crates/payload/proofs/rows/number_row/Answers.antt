@@ -1,38 +1,48 @@
--- `payload::rows::number_row` meets its contract. Each return goes by the tests that led there.
-use mathlib.Core.Path.{◌∙◌}
+-- `payload::rows::number_row` meets its contract, kind by kind.
+use mathlib.Core.Path.{◌≡◌, ◌∙◌}
+use Prim.Native.Nat.{◌<◌, ◌≤◌}
 use native.Mathlib.Omega.{arith}
 use borrow.Author.Rules.{sfits_of}
 use mir.Facts.{to_z-of_z}
-use borrow.Author.Tests.{eq-eqb, ne_eqb, lt-ltb, le-ltb}
+use borrow.Author.Tests.{ne_eqb, lt-ltb, le-ltb}
 use Rattle.wire.specs.Number.{signed_of}
 use Rattle.payload.specs.Row.{number_row}
 use Rattle.payload.proofs.rows.number_row.Goals as goal
 
-pub returns-then-k-eq-BOOLEAN : goal.returns-then-k-eq-BOOLEAN
+pub returns-in-1 : goal.returns-in-1
 unfolding number_row
-returns-then-k-eq-BOOLEAN c = c.plain.ensures ∙ simp (eq-eqb _ _ c.if-k-eq-BOOLEAN.true)
+returns-in-1 c = rw c.in-1.is c.plain.ensures
 
-pub returns-then-k-lt6 : goal.returns-then-k-lt6
+pub returns-in-0-to-5 : goal.returns-in-0-to-5
 unfolding number_row
-returns-then-k-lt6 c = c.plain-then-k-lt6.ensures ∙ simp (ne_eqb _ _ c.if-k-eq-BOOLEAN.false, lt-ltb _ _ c.if-k-lt6.true)
+returns-in-0-to-5 c =
+    let ne : c.args.k ≡ 1 → ⊥ = omega arith in
+    let few : c.args.k < 6 = omega arith in
+    c.plain-in-0-to-5.ensures ∙ simp (ne_eqb _ _ ne, lt-ltb _ _ few)
 
 pub signed_of-requires : goal.signed_of-requires
 signed_of-requires c = omega (arith, c.half_of.ensures.1, c.half_of.ensures.2, c.half_of.ensures.3, c.requires.2)
 
-pub returns-then-k-lt10 : goal.returns-then-k-lt10
+pub returns-in-6-to-9 : goal.returns-in-6-to-9
 unfolding number_row signed_of
-returns-then-k-lt10 c =
-    c.plain-then-k-lt10.ensures
+returns-in-6-to-9 c =
+    let ne : c.args.k ≡ 1 → ⊥ = omega arith in
+    let many : 6 ≤ c.args.k = omega arith in
+    let few : c.args.k < 10 = omega arith in
+    c.plain-in-6-to-9.ensures
     ∙ rw (to_z-of_z (sfits_of c.signed_of.type_inv), c.signed_of.ensures, c.half_of.ensures.0)
-    (simp (ne_eqb _ _ c.if-k-eq-BOOLEAN.false, le-ltb _ _ c.if-k-lt6.false, lt-ltb _ _ c.if-k-lt10.true))
+    (simp (ne_eqb _ _ ne, le-ltb _ _ many, lt-ltb _ _ few))
 
-pub overflow_cast-v : goal.overflow_cast-v
-overflow_cast-v c = let h = rw c.if-k-eq10.true at c.requires.2 in omega arith
-
-pub returns-then-k-eq10 : goal.returns-then-k-eq10
+pub returns-in-10 : goal.returns-in-10
 unfolding number_row
-returns-then-k-eq10 c = rw c.float32_of.ensures (simp (ne_eqb _ _ c.if-k-eq-BOOLEAN.false, le-ltb _ _ c.if-k-lt6.false, le-ltb _ _ c.if-k-lt10.false, eq-eqb _ _ c.if-k-eq10.true))
+returns-in-10 c = rw (c.in-10.is, c.float32_of.ensures)
 
-pub returns : goal.returns
+pub returns-in_default : goal.returns-in_default
 unfolding number_row
-returns c = rw c.float64_of.ensures (simp (ne_eqb _ _ c.if-k-eq-BOOLEAN.false, le-ltb _ _ c.if-k-lt6.false, le-ltb _ _ c.if-k-lt10.false, ne_eqb _ _ c.if-k-eq10.false))
+returns-in_default c =
+    let many : 11 ≤ c.args.k = omega arith in
+    let ne1 : c.args.k ≡ 1 → ⊥ = omega arith in
+    let ne10 : c.args.k ≡ 10 → ⊥ = omega arith in
+    let many6 : 6 ≤ c.args.k = omega arith in
+    let many10 : 10 ≤ c.args.k = omega arith in
+    rw c.float64_of.ensures (simp (ne_eqb _ _ ne1, le-ltb _ _ many6, le-ltb _ _ many10, ne_eqb _ _ ne10))

@@ -1,41 +1,45 @@
 -- `payload::size::measure` meets its contract, from the last row to the first.
-use Rattle.std.proofs.Common.{ℕ, ◌+◌, ◌-◌, ◌*◌, ◌≤◌, ◌<◌, refl, arith}
-use Rattle.payload.proofs.Writing.MeasureLaws.{row_most, below_le, sizing_none, sizing_end, sizing_wide, sizing_own, sizing_next}
+use Rattle.std.proofs.Common.{◌≡◌, suc, ◌-◌, ◌<◌, length, get_or, ◌∙◌, arith}
+use Rattle.payload.specs.Fine.{value_at}
+use Rattle.payload.proofs.Writing.FineLaws.{fits_at}
+use Rattle.payload.proofs.Writing.SizeLaws.{inside_short}
+use Rattle.payload.proofs.Writing.MeasureLaws.{sizing_none, sizing_wide, sizing_next}
 use Rattle.payload.proofs.size.measure.Goals as goal
 
--- the sums are far below what a number holds
-room-more : (n i own : ℕ) → n ≤ 64 → own < row_most → 1 + (n - i) * row_most ≤ 9223372036854775808 - own
-room-more n i own h k = omega arith
-
 pub loop-i-init : goal.loop-i-init
-loop-i-init c = (sizing_none _ _ _ _ c.requires.2 _ refl, c.field_top-top.ensures)
+loop-i-init c = sizing_none c.args.fine.now c.args.held.now c.requires
 
-pub returns-then-top-all-clause-answer : goal.returns-then-top-all-clause-answer
-returns-then-top-all-clause-answer c =
-    let t = c.loop-i in
-    λ ws buf nums k. sizing_wide c.args.width c.args.count c.args.cells.now c.args.sizes.now t.sizes t.s t.i
-    t.invariant.0 c.requires.1 (t.i - 1) c.loop-i-test.true refl _ c.whole-all.ensures (rw t.invariant.1 at c.if-top-all.true) ws buf
-    nums t.sizes k
+pub content_len-requires : goal.content_len-requires
+content_len-requires c =
+    let f = c.args.fine.now in
+    let i = c.loop-i.i - 1 in
+    let h : i < f.table.now.count = omega arith in
+    let short : length f.content.now < 9223372036854775808 = omega arith in (
+      rw c.kind_in-kind.ensures c.cell-cell.ensures.fine.kind_in_lem,
+      inside_short (length f.content.now) (value_at f i).value (fits_at f i h).inside short,
+    )
 
-pub added-s-requires : goal.added-s-requires
-added-s-requires c =
+pub returns-then-top-content_len-clause-answer : goal.returns-then-top-content_len-clause-answer
+returns-then-top-content_len-clause-answer c =
+    let f = c.args.fine.now in
     let t = c.loop-i in
-    let own : c.own_len.result < row_most = rw c.own_len.ensures
-    (sizing_own c.args.width c.args.count c.args.cells.now c.args.sizes.now t.sizes t.s t.i t.invariant.0 c.requires.1
-    (t.i - 1) c.loop-i-test.true refl _ c.whole-all.ensures (rw t.invariant.1 at c.if-top-all.false)) in
-    (below_le _ _ t.s (room-more c.args.count t.i c.own_len.result c.requires.0 own) t.invariant.0.room, omega arith)
+    let i = t.i - 1 in
+    let h : i < f.table.now.count = omega arith in
+    let e : suc i ≡ t.i = omega arith in
+    sizing_wide f t.held t.sums i (rw e t.invariant) h (get_or t.sums c.level_in-level.result 0)
+    (rw (c.level_in-level.ensures, c.cell-cell.ensures.is))
+    (rw (c.field_top-top.ensures, c.content_len.ensures, c.kind_in-kind.ensures, c.cell-cell.ensures.is) at c.if-top-content_len.true)
 
 pub loop-i-preserved : goal.loop-i-preserved
 loop-i-preserved c =
-    let t = c.loop-i in (
-      sizing_next c.args.width c.args.count c.args.cells.now c.args.sizes.now t.sizes t.s t.i t.invariant.0 c.requires.1
-          (t.i - 1) c.loop-i-test.true refl _ c.whole-all.ensures (rw t.invariant.1 at c.if-top-all.false)
-          _ _ c.own_len.ensures c.level_in.ensures _ c.added-s.ensures,
-      t.invariant.1,
-    )
-
-pub returns-clause-answer : goal.returns-clause-answer
-returns-clause-answer c =
+    let f = c.args.fine.now in
     let t = c.loop-i in
-    λ ws buf nums k. sizing_end c.args.width c.args.count c.args.cells.now c.args.sizes.now t.sizes t.s t.i t.invariant.0
-    c.loop-i-test.false ws buf nums k
+    let i = t.i - 1 in
+    let h : i < f.table.now.count = omega arith in
+    let e : suc i ≡ t.i = omega arith in
+    sizing_next f t.held t.sums i (rw e t.invariant) h (get_or t.sums c.level_in-level.result 0)
+    (rw (c.level_in-level.ensures, c.cell-cell.ensures.is))
+    (rw (c.field_top-top.ensures, c.content_len.ensures, c.kind_in-kind.ensures, c.cell-cell.ensures.is) at c.if-top-content_len.false)
+    c.count_in.new.sums c.count_in.ensures.long
+    (λ d q. c.count_in.ensures.each d q ∙ rw
+    (c.level_in-level.ensures, c.head_len.ensures, c.content_len-in-loop-i.ensures, c.kind_in-kind.ensures, c.cell-cell.ensures.is))

@@ -1,13 +1,10 @@
 -- `all_differ` meets its contract. The loop's invariant: the Data IDs differ if those from row i on do.
 use mathlib.Core.Path.{◌≡◌}
-use Prim.Native.Nat.{◌≤◌, ◌-◌}
-use lib.ListN.{drop}
+use lib.ListN.{length}
 use Rattle.payload.specs.Table.{idents_differ}
 use Rattle.payload.specs.Cells.{table_in}
+use Rattle.payload.proofs.Rules.CellLaws.{rows_after}
 use Rattle.payload.proofs.table.all_differ.Given as goal
 
 abbrev pub invariant-loop-i : goal.invariant-loop-i
-invariant-loop-i l = (l.i ≤ l.count) × (idents_differ (table_in l.count l.cells) ≡ idents_differ (drop l.i (table_in l.count l.cells)))
-
-abbrev pub decreases-loop-i : goal.decreases-loop-i
-decreases-loop-i l = l.count - l.i
+invariant-loop-i l = idents_differ (table_in (length l.cells) l.cells) ≡ idents_differ (rows_after l.cells l.i)

@@ -1,5 +1,6 @@
 -- `payload::write::run_wire` meets its contract: each answer is picked by its tests.
-use borrow.Author.Tests.{eq-eqb, ne_eqb}
+use borrow.Author.Tests.{ne_eqb}
+use native.Mathlib.Omega.{arith}
 use Rattle.payload.specs.Writing.{run_wire}
 use Rattle.payload.proofs.write.run_wire.Goals as goal
 
@@ -7,14 +8,14 @@ pub returns-then-fixed : goal.returns-then-fixed
 unfolding run_wire
 returns-then-fixed c = rw c.if-fixed.true
 
-pub returns-then-width-eq1 : goal.returns-then-width-eq1
+pub returns-in-1 : goal.returns-in-1
 unfolding run_wire
-returns-then-width-eq1 c = rw (c.if-fixed.false, eq-eqb _ _ c.if-width-eq1.true)
+returns-in-1 c = rw (c.if-fixed.false, c.in-1.is)
 
-pub returns-then-width-eq2 : goal.returns-then-width-eq2
+pub returns-in-2 : goal.returns-in-2
 unfolding run_wire
-returns-then-width-eq2 c = rw (c.if-fixed.false, ne_eqb _ _ c.if-width-eq1.false, eq-eqb _ _ c.if-width-eq2.true)
+returns-in-2 c = rw (c.if-fixed.false, c.in-2.is)
 
-pub returns : goal.returns
+pub returns-in_default : goal.returns-in_default
 unfolding run_wire
-returns c = rw (c.if-fixed.false, ne_eqb _ _ c.if-width-eq1.false, ne_eqb _ _ c.if-width-eq2.false)
+returns-in_default c = rw (c.if-fixed.false, ne_eqb c.args.width 1 (λ e. omega arith), ne_eqb c.args.width 2 (λ e. omega arith))

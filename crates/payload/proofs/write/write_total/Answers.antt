@@ -1,37 +1,61 @@
 -- `payload::write::write_total` meets its contract, answer by answer.
-use lib.ListN.{length}
-use Rattle.wire.specs.declared.verdict.Verdict.TheVariants.{Heavy, Room}
-use Rattle.payload.specs.Parts.{under}
-use Rattle.payload.specs.Columns.{parts_in}
-use Rattle.payload.specs.Sizes.{fitted_of}
-use Rattle.payload.proofs.Writing.OutcomeLaws.{settles_refused, settles_done, fitted_heavy, fitted_room, fitted_done}
+use Rattle.std.proofs.Common.{length}
+use Rattle.std.proofs.lemmas.Result.{err_from_is_err_and}
+use Rattle.payload.specs.Writing.{output_is}
+use Rattle.payload.proofs.Writing.WriteLaws.{ends_wide, total_is, ends_heavy, ends_room, ends_done}
 use Rattle.payload.proofs.write.write_total.Goals as goal
 
-pub returns-then-total-gt-PAYLOAD_MOST : goal.returns-then-total-gt-PAYLOAD_MOST
-returns-then-total-gt-PAYLOAD_MOST c =
-    let a = c.args in
-    let bytes = under a.width 1 (parts_in a.ws a.content.now a.cells.now a.nums.now a.sizes.now a.count 0) in
-    let space = length a.out.now in
-    let f = settles_refused (fitted_of bytes space) Heavy a.out.now _ (fitted_heavy bytes space (rw c.requires.2 at c.if-total-gt-PAYLOAD_MOST.true))
-    c.refuse.ensures in
-    record { answer = f.answer; output = f.output }
+pub returns-in_err-total-clause-answer : goal.returns-in_err-total-clause-answer
+returns-in_err-total-clause-answer c =
+    let p = err_from_is_err_and c.from_residual.result c.from_residual.ensures.1 in
+    let e = ends_wide c.args.fine.now (length c.args.out.now) _ c.in_err-total.ensures.answer in
+    rw (p.1, p.2, e)
 
-pub returns-then-out-total : goal.returns-then-out-total
-returns-then-out-total c =
-    let a = c.args in
-    let bytes = under a.width 1 (parts_in a.ws a.content.now a.cells.now a.nums.now a.sizes.now a.count 0) in
-    let space = length a.out.now in
-    let f = settles_refused (fitted_of bytes space) Room a.out.now _
-    (fitted_room bytes space (rw c.requires.2 at c.if-total-gt-PAYLOAD_MOST.false) (rw c.requires.2 at c.if-out-total.true))
-    c.refuse-then-out-total.ensures in
-    record { answer = f.answer; output = f.output }
+pub returns-in_err-total-clause-output : goal.returns-in_err-total-clause-output
+unfolding output_is
+returns-in_err-total-clause-output c =
+    let e = ends_wide c.args.fine.now (length c.args.out.now) _ c.in_err-total.ensures.answer in
+    rw e
 
-pub returns : goal.returns
-returns c =
-    let a = c.args in
-    let bytes = under a.width 1 (parts_in a.ws a.content.now a.cells.now a.nums.now a.sizes.now a.count 0) in
-    let space = length a.out.now in
-    let f = settles_done (fitted_of bytes space) bytes a.out.now _ a.total
-    (fitted_done bytes space (rw c.requires.2 at c.if-total-gt-PAYLOAD_MOST.false) (rw c.requires.2 at c.if-out-total.false)) c.requires.2
-    c.put_rows.ensures in
-    record { answer = f.answer; output = f.output }
+pub returns-then-total-gt-PAYLOAD_MOST-clause-answer : goal.returns-then-total-gt-PAYLOAD_MOST-clause-answer
+returns-then-total-gt-PAYLOAD_MOST-clause-answer c =
+    let e = ends_heavy c.args.fine.now (length c.args.out.now) _ c.in_ok-total.ensures.answer c.if-total-gt-PAYLOAD_MOST.true in
+    rw e
+
+pub returns-then-total-gt-PAYLOAD_MOST-clause-output : goal.returns-then-total-gt-PAYLOAD_MOST-clause-output
+unfolding output_is
+returns-then-total-gt-PAYLOAD_MOST-clause-output c =
+    let e = ends_heavy c.args.fine.now (length c.args.out.now) _ c.in_ok-total.ensures.answer c.if-total-gt-PAYLOAD_MOST.true in
+    rw e
+
+pub returns-then-out-total-clause-answer : goal.returns-then-out-total-clause-answer
+returns-then-out-total-clause-answer c =
+    let e = ends_room c.args.fine.now (length c.args.out.now) _ c.in_ok-total.ensures.answer c.if-total-gt-PAYLOAD_MOST.false
+    c.if-out-total.true in
+    rw e
+
+pub returns-then-out-total-clause-output : goal.returns-then-out-total-clause-output
+unfolding output_is
+returns-then-out-total-clause-output c =
+    let e = ends_room c.args.fine.now (length c.args.out.now) _ c.in_ok-total.ensures.answer c.if-total-gt-PAYLOAD_MOST.false
+    c.if-out-total.true in
+    rw e
+
+pub put_rows-requires : goal.put_rows-requires
+put_rows-requires c = (
+  c.in_ok-total.ensures.holds,
+  rw (← total_is c.args.fine.now (length c.args.out.now) _ c.in_ok-total.ensures.answer) c.if-out-total.false,
+)
+
+pub returns-clause-answer : goal.returns-clause-answer
+returns-clause-answer c =
+    let f = c.args.fine.now in
+    let e = ends_done f (length c.args.out.now) _ c.in_ok-total.ensures.answer c.if-total-gt-PAYLOAD_MOST.false c.if-out-total.false in
+    rw (e, total_is f (length c.args.out.now) _ c.in_ok-total.ensures.answer)
+
+pub returns-clause-output : goal.returns-clause-output
+unfolding output_is
+returns-clause-output c =
+    let e = ends_done c.args.fine.now (length c.args.out.now) _ c.in_ok-total.ensures.answer c.if-total-gt-PAYLOAD_MOST.false
+    c.if-out-total.false in
+    rw e c.put_rows.ensures

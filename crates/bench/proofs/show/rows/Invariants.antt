@@ -1,9 +1,0 @@
--- `show::rows` is safe and ends. The loop's invariant: i is at most 64.
-use Prim.Native.Nat.{◌≤◌, ◌-◌}
-use Rattle.bench.proofs.show.rows.Given as goal
-
-abbrev pub invariant-loop-i : goal.invariant-loop-i
-invariant-loop-i l = l.i ≤ 64
-
-abbrev pub decreases-loop-i : goal.decreases-loop-i
-decreases-loop-i l = 64 - l.i

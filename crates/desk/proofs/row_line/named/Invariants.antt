@@ -1,9 +1,0 @@
--- `desk::row_line::named` is safe and ends. The loop's invariant: i is at most 64.
-use Rattle.std.proofs.Common.{◌-◌, ◌≤◌}
-use Rattle.desk.proofs.row_line.named.Given as goal
-
-abbrev pub invariant-loop-i : goal.invariant-loop-i
-invariant-loop-i l = l.i ≤ 64
-
-abbrev pub decreases-loop-i : goal.decreases-loop-i
-decreases-loop-i l = 64 - l.i

@@ -1,0 +1,175 @@
+// What the program does, with what it reads and writes.
+
+use super::complaint::{Complaint, Fault};
+use super::files::{self, Content};
+use super::sheet::Sheet;
+use super::tally::Tally;
+use super::{make, show, table_file, values};
+use std::io;
+use std::io::{Input, Write};
+use std::rt::Files;
+use text::argument::Arguments;
+use text::file::Inputs;
+use text::word;
+
+// What the program is asked for.
+#[derive(Clone, Copy)]
+enum Command {
+    Show(Content),
+    Make,
+}
+
+const COMMANDS: [(&str, Command); 3] = [
+    ("show", Command::Show(Content::Datagram)),
+    ("show-hex", Command::Show(Content::Digits)),
+    ("make", Command::Make),
+];
+
+const USAGE: &str =
+    "usage: desk show TABLE [FILE...], desk show-hex TABLE [FILE...], desk make TABLE [VALUES]";
+
+// The files that are read, standard output and standard error.
+#[derive(Drop)]
+pub struct Program<'a, R, O, E> {
+    rt: &'a R,
+    inputs: Inputs<'a, R>,
+    out: O,
+    err: E,
+}
+
+impl<'a, R: Files + Input + AllocGlobal, O: Write, E: Write> Program<'a, R, O, E> {
+    // With nothing read or written yet.
+    pub fn new(rt: &'a R, out: O, err: E) -> Program<'a, R, O, E> {
+        Program {
+            rt,
+            inputs: Inputs::new(rt),
+            out,
+            err,
+        }
+    }
+
+    // Says something on standard error. Where even that can't be written, nobody can be told.
+    pub fn say(&mut self, text: &str) {
+        let _ = writeln!(self.err, "{text}");
+    }
+
+    // What came of a file; where nothing did, what is wrong with it is said in the same way.
+    fn or_complain<T, F: Fault + Drop>(
+        &mut self,
+        path: &[u8],
+        came: Result<T, Complaint<F>>,
+    ) -> Option<T> {
+        match came {
+            Ok(value) => Some(value),
+            Err(complaint) => {
+                let _ = complaint.write(&mut self.err, path);
+                None
+            }
+        }
+    }
+
+    // The line that says which datagram follows, where there are several.
+    fn title(&mut self, path: &[u8]) -> io::Result<()> {
+        self.out.write_all(b"== ")?;
+        self.out.write_all(path)?;
+        self.out.write_all(b"\n")
+    }
+
+    // Shows the datagram of a file, and counts it.
+    fn show_file(
+        &mut self,
+        path: &[u8],
+        content: Content,
+        is_one_of_many: bool,
+        sheet: &Sheet<'_>,
+        tally: &mut Tally,
+    ) -> io::Result<()> {
+        let read = files::read_datagram(&mut self.inputs, path, content);
+        let Some(datagram) = self.or_complain(path, read) else {
+            tally.add_unread();
+            return Ok(());
+        };
+        if is_one_of_many {
+            self.title(path)?;
+        }
+        tally.add(show::datagram(&mut self.out, &datagram, sheet)?);
+        Ok(())
+    }
+
+    // Shows the datagrams that the arguments behind the table name, or the one on standard input.
+    fn show(
+        &mut self,
+        arguments: &Arguments,
+        content: Content,
+        sheet: &Sheet<'_>,
+    ) -> io::Result<()> {
+        let mut tally = Tally::new();
+        let count = arguments.len();
+        if count <= 3 {
+            return self.show_file(b"-", content, false, sheet, &mut tally);
+        }
+        for i in 3..count {
+            let path = arguments.get(i).unwrap_or(&[]);
+            self.show_file(path, content, 4 < count, sheet, &mut tally)?;
+        }
+        if 4 < count {
+            // Each datagram has been shown: where this line can't be written, nothing is said.
+            let _ = writeln!(self.out, "{tally}");
+        }
+        Ok(())
+    }
+
+    // The datagram of the values in a file.
+    fn made(&mut self, path: &[u8], sheet: &Sheet<'_>) -> Option<Vec<u8>> {
+        let alloc = self.rt.alloc();
+        let read = files::read(&mut self.inputs, path, Content::Values);
+        let text = self.or_complain(path, read)?;
+        let values = self.or_complain(path, values::read(alloc, &text, sheet))?;
+        self.or_complain(path, make::datagram(alloc, &values, sheet))
+    }
+
+    // Makes the datagram of the values in a file.
+    fn make(&mut self, path: &[u8], sheet: &Sheet<'_>) -> io::Result<()> {
+        match self.made(path, sheet) {
+            Some(datagram) => self.out.write_all(&datagram),
+            None => Ok(()),
+        }
+    }
+
+    // Does what is asked under a sheet.
+    fn follow(
+        &mut self,
+        command: Command,
+        arguments: &Arguments,
+        sheet: &Sheet<'_>,
+    ) -> io::Result<()> {
+        match command {
+            Command::Show(content) => self.show(arguments, content, sheet),
+            Command::Make => self.make(arguments.get(3).unwrap_or(b"-"), sheet),
+        }
+    }
+
+    // Does what is asked under the table of a file.
+    fn run_under(&mut self, command: Command, path: &[u8], arguments: &Arguments) {
+        let read = files::read(&mut self.inputs, path, Content::Table);
+        let Some(text) = self.or_complain(path, read) else {
+            return;
+        };
+        let read = table_file::read(self.rt.alloc(), &text);
+        let Some(sheet) = self.or_complain(path, read) else {
+            return;
+        };
+        if self.follow(command, arguments, &sheet).is_err() {
+            self.say("standard output cannot be written");
+        }
+    }
+
+    // Does what the arguments ask for.
+    pub fn run(&mut self, arguments: &Arguments) {
+        let asked = arguments.get(1).unwrap_or(&[]);
+        match word::named(&COMMANDS, asked) {
+            Some(command) => self.run_under(command, arguments.get(2).unwrap_or(&[]), arguments),
+            None => self.say(USAGE),
+        }
+    }
+}

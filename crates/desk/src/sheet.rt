@@ -1,0 +1,84 @@
+// A type table with its expectation and the names of its rows, as a table file says them.
+
+use super::kind::Kind;
+use super::setting::Width;
+use message::read::Expected;
+use payload::table::{Table, TypeRow};
+
+// A row of the table, with its index, its name and the line that has it.
+#[derive(Clone, Copy)]
+pub struct NamedRow<'a> {
+    pub index: usize,
+    pub level: u8,
+    pub ident: u16,
+    pub kind: Kind,
+    pub required: bool,
+    pub name: &'a str,
+    pub line: usize,
+}
+
+impl NamedRow<'_> {
+    // The row as the library has it.
+    fn type_row(&self) -> TypeRow {
+        TypeRow {
+            level: self.level,
+            ident: self.ident,
+            kind: self.kind.number(),
+            elem: self.kind.element_number(),
+            required: self.required,
+        }
+    }
+
+    // The level that the next row has at most.
+    pub fn deepest(&self) -> u8 {
+        if self.kind == Kind::Struct {
+            return self.level.saturating_add(1);
+        }
+        self.level
+    }
+}
+
+// What a table file says.
+#[derive(Drop)]
+pub struct Sheet<'a> {
+    pub expected: Expected,
+    pub width: Width,
+    pub rows: Vec<NamedRow<'a>>,
+}
+
+impl<'a> Sheet<'a> {
+    // The table as the library has it.
+    pub fn table(&self) -> Table {
+        let none = TypeRow {
+            level: 0,
+            ident: 0,
+            kind: 0,
+            elem: 0,
+            required: false,
+        };
+        let mut rows = [none; 64];
+        for (to, from) in rows.iter_mut().zip(&self.rows) {
+            *to = from.type_row();
+        }
+        Table {
+            rows,
+            count: self.rows.len(),
+            width: self.width.bytes,
+            fixed: self.width.fixed,
+        }
+    }
+
+    // The row that has a name, its letters in either case.
+    pub fn find(&self, name: &[u8]) -> Option<NamedRow<'a>> {
+        self.rows
+            .iter()
+            .copied()
+            .find(|row| row.name.as_bytes().eq_ignore_ascii_case(name))
+    }
+
+    // The row of a number, counted from 1.
+    pub fn numbered(&self, number: u64) -> Option<NamedRow<'a>> {
+        let index = number.checked_sub(1)?;
+        self.rows.get(index as usize).copied()
+    }
+}

@@ -1,0 +1,146 @@
+// A row's value as text, behind the row's name or number. A line of show has it too, with the words that show puts before a value.
+
+use super::kind::{Form, Kind, Scalar};
+use super::value_fault::{ContentFault, ValueFault};
+use super::{line, number};
+use payload::row::{Row, Value};
+use text::number as text_number;
+use text::quote::{self, QuoteError};
+use text::word::Words;
+
+// The most bytes of content: texts and arrays of all rows.
+const CONTENT_MOST: usize = 65536;
+
+// The words that show puts before a number.
+const LEADS: [&str; 5] = ["unsigned", "signed", "float32", "float64", "bits"];
+
+// Whether a word is one of some, its letters in either case.
+fn is_one_of(words: &[&str], word: &[u8]) -> bool {
+    words
+        .iter()
+        .any(|other| other.as_bytes().eq_ignore_ascii_case(word))
+}
+
+// The number of a kind, behind a word that show may have put before it. Behind a float's value may stand its bits, which then decide.
+fn read_number<'a>(kind: Scalar, words: Words<'a>) -> Result<Row, ValueFault<'a>> {
+    let mut words = without_lead(words);
+    let mut word = line::next_word(&mut words);
+    if let Form::Float(_) = kind.form() {
+        let mut behind = words;
+        let bits = line::next_word(&mut behind);
+        if text_number::is_hexadecimal(bits) {
+            word = bits;
+            words = behind;
+        }
+    }
+    line::ends(words)?;
+    Ok(number::read(word, kind)?.row())
+}
+
+// The words without one that show puts before a number.
+fn without_lead(words: Words<'_>) -> Words<'_> {
+    let mut behind = words;
+    if is_one_of(&LEADS, line::next_word(&mut behind)) {
+        return behind;
+    }
+    words
+}
+
+// The words without those that show puts before a run of bytes: bytes, its place and its length.
+fn without_place(words: Words<'_>) -> Words<'_> {
+    let mut behind = words;
+    if line::next_word(&mut behind).eq_ignore_ascii_case(b"bytes") {
+        let _ = behind.next();
+        let _ = behind.next();
+        return behind;
+    }
+    words
+}
+
+// The row of the content from a place on.
+fn run(place: usize, content: &[u8]) -> Row {
+    Row {
+        value: Value::Bytes {
+            place,
+            len: content.len().saturating_sub(place),
+        },
+        bits: 0,
+    }
+}
+
+// What is wrong with a quotation.
+fn quote_fault(fault: QuoteError, word: &[u8]) -> ValueFault<'_> {
+    ValueFault::Content(match fault {
+        QuoteError::Open => ContentFault::Open(word),
+        QuoteError::Escape => ContentFault::NoEscape(word),
+        QuoteError::TooLong => ContentFault::LongText(word),
+        QuoteError::OutOfMemory => return ValueFault::OutOfMemory,
+    })
+}
+
+// A text, put behind the content.
+fn read_text<'a>(content: &mut Vec<u8>, words: Words<'a>) -> Result<Row, ValueFault<'a>> {
+    let mut words = without_place(words);
+    let word = line::next_word(&mut words);
+    if word.first() != Some(&b'"') {
+        return Err(ValueFault::Content(ContentFault::NoText(word)));
+    }
+    line::ends(words)?;
+    let place = content.len();
+    quote::read(word, content, CONTENT_MOST).map_err(|fault| quote_fault(fault, word))?;
+    Ok(run(place, content))
+}
+
+// An array's elements, put behind the content.
+fn read_array<'a>(
+    content: &mut Vec<u8>,
+    element: Scalar,
+    words: Words<'a>,
+) -> Result<Row, ValueFault<'a>> {
+    let place = content.len();
+    for word in without_place(words) {
+        let bytes = number::read(word, element)?.bits().to_be_bytes();
+        if CONTENT_MOST < content.len().saturating_add(element.size()) {
+            return Err(ValueFault::Content(ContentFault::LongArray));
+        }
+        content.extend_from_slice(&bytes[8 - element.size()..])?;
+    }
+    Ok(run(place, content))
+}
+
+// A present struct.
+fn read_struct(words: Words<'_>) -> Result<Row, ValueFault<'_>> {
+    let word = line::last_word(words)?;
+    if !is_one_of(&["members", "present"], word) {
+        return Err(ValueFault::Content(ContentFault::NoStruct(word)));
+    }
+    Ok(Row {
+        value: Value::Members,
+        bits: 0,
+    })
+}
+
+// An absent row.
+pub const ABSENT: Row = Row {
+    value: Value::Absent,
+    bits: 0,
+};
+
+// The value of a row of a kind. Texts and arrays go behind the content.
+pub fn read<'a>(
+    content: &mut Vec<u8>,
+    kind: Kind,
+    words: Words<'a>,
+) -> Result<Row, ValueFault<'a>> {
+    let mut behind = words;
+    if line::next_word(&mut behind).eq_ignore_ascii_case(b"absent") {
+        line::ends(behind)?;
+        return Ok(ABSENT);
+    }
+    match kind {
+        Kind::Scalar(scalar) => read_number(scalar, words),
+        Kind::Text => read_text(content, words),
+        Kind::Array(element) => read_array(content, element, words),
+        Kind::Struct => read_struct(words),
+    }
+}

@@ -1,0 +1,146 @@
+// What no clause says: that memory is enough for what is read, and what is printed. Expected values are worked out by hand.
+
+use crate::argument::Arguments;
+use crate::decimal::{DecimalError, Shortest};
+use crate::file::Inputs;
+use crate::input::InputError;
+use crate::quote::QuoteError;
+use crate::say::OrNone;
+use crate::word::Words;
+use crate::{decimal, input, quote};
+use std::io;
+use std::io::Read;
+use std::test::Fail;
+
+#[test]
+fn reads_whole_inputs_alone(rt: HostRuntime) -> Result<(), Fail> {
+    let whole = input::read_whole(rt.alloc(), b"abc".as_slice(), 3)?;
+    assert_eq!(rt; whole.as_slice(), b"abc".as_slice());
+    let start = input::read_start(rt.alloc(), b"abc".as_slice(), 2)?;
+    assert_eq!(rt; start.as_slice(), b"ab".as_slice());
+    assert!(rt;
+        matches!(
+            input::read_whole(rt.alloc(), b"abc".as_slice(), 2),
+            Err(InputError::TooLong)
+        )
+    );
+    Ok(())
+}
+
+// Gives two bytes, and then fails.
+#[derive(Drop)]
+struct Broken {
+    is_begun: bool,
+}
+
+impl Read for Broken {
+    fn read(&mut self, buf: &mut [u8]) -> io::Result<usize> {
+        if self.is_begun || buf.len() < 2 {
+            return Err(io::Error::from_raw_os_error(5));
+        }
+        self.is_begun = true;
+        Ok(2)
+    }
+}
+
+#[test]
+fn tells_a_reading_that_fails(rt: HostRuntime) {
+    let source = Broken { is_begun: false };
+    match input::read_whole(rt.alloc(), source, 9) {
+        Err(InputError::Unread(why)) => assert_eq!(rt; why.raw_os_error(), Some(5)),
+        _ => assert!(rt; false),
+    }
+}
+
+#[test]
+fn reads_files_and_standard_input_once(rt: HostRuntime) -> Result<(), Fail> {
+    let mut inputs = Inputs::new(&rt);
+    assert_eq!(rt; inputs.read_whole(b"/dev/null", 0)?.len(), 0);
+    let _ = inputs.read_start(b"-", 0);
+    match inputs.read_start(b"-", 0) {
+        Err(why) => assert_eq!(rt; why.raw_os_error(), Some(9)),
+        Ok(_) => assert!(rt; false),
+    }
+    Ok(())
+}
+
+#[test]
+fn has_the_arguments(rt: HostRuntime) -> Result<(), Fail> {
+    let arguments = Arguments::new(&rt, rt.alloc())?;
+    assert!(rt; arguments.get(0).is_some());
+    assert!(rt; arguments.get(arguments.len()).is_none());
+    Ok(())
+}
+
+#[test]
+fn takes_a_line_apart(rt: HostRuntime) {
+    let mut words = Words::new(b" note \"a \\\" b\" c#d # e");
+    assert_eq!(rt; words.next(), Some(b"note".as_slice()));
+    assert_eq!(rt; words.next(), Some(b"\"a \\\" b\"".as_slice()));
+    assert_eq!(rt; words.next(), Some(b"c#d".as_slice()));
+    assert_eq!(rt; words.next(), None);
+}
+
+#[test]
+fn reads_back_what_it_quotes(rt: HostRuntime) -> Result<(), Fail> {
+    let text = b"a \"b\"\n\x01 \xC3\xA9 \xFF";
+    let mut quoted = Vec::new(rt.alloc());
+    quote::write(&mut quoted, text)?;
+    assert_eq!(rt;
+        quoted.as_slice(),
+        b"\"a \\\"b\\\"\\n\\x01 \xC3\xA9 \\xFF\"".as_slice()
+    );
+    let mut content = Vec::new(rt.alloc());
+    assert!(rt; quote::read(quoted.as_slice(), &mut content, 12).is_ok());
+    assert_eq!(rt; content.as_slice(), text.as_slice());
+    assert_eq!(rt;
+        quote::read(b"\"x\"", &mut content, 12),
+        Err(QuoteError::TooLong)
+    );
+    assert_eq!(rt;
+        quote::read(b"\"\\y\"", &mut content, 99),
+        Err(QuoteError::Escape)
+    );
+    assert_eq!(rt;
+        quote::read(b"\"x", &mut content, 99),
+        Err(QuoteError::Open)
+    );
+    Ok(())
+}
+
+#[test]
+fn reads_and_prints_floats(rt: HostRuntime) -> Result<(), Fail> {
+    assert_eq!(rt; decimal::bits::<f64>(b"0.1"), Ok(0x3FB999999999999A));
+    assert_eq!(rt; decimal::bits::<f32>(b".1E0"), Ok(0x3DCCCCCD));
+    assert_eq!(rt;
+        decimal::bits::<f32>(b"3.40282357e38"),
+        Err(DecimalError::TooLarge)
+    );
+    assert_eq!(rt; decimal::bits::<f64>(b"1e309"), Err(DecimalError::TooFar));
+    assert_eq!(rt; decimal::bits::<f64>(b"1e"), Err(DecimalError::NotADecimal));
+    let alloc = rt.alloc();
+    assert_eq!(rt;
+        format!(in alloc; "{}", Shortest(12500.0f64))?.as_str(),
+        "12500"
+    );
+    assert_eq!(rt;
+        format!(in alloc; "{}", Shortest(0.00001f64))?.as_str(),
+        "0.00001"
+    );
+    assert_eq!(rt; format!(in alloc; "{}", Shortest(1.5f32))?.as_str(), "1.5");
+    assert_eq!(rt;
+        format!(in alloc; "{}", Shortest(1e17f64))?.as_str(),
+        "1e+17"
+    );
+    Ok(())
+}
+
+#[test]
+fn prints_a_missing_value(rt: HostRuntime) -> Result<(), Fail> {
+    let alloc = rt.alloc();
+    assert_eq!(rt;
+        format!(in alloc; "{} {}", OrNone(Some(7u8)), OrNone::<u8>(None))?.as_str(),
+        "7 none"
+    );
+    Ok(())
+}
