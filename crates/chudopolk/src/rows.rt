@@ -31,7 +31,7 @@ fn numbered(what: u64, number: u64) -> Numbers
     }
 }
 
-// What stands for each value is C's enum chudopolk_what, which `row_of` reads back.
+// What stands for each value is of C's enum chudopolk_what in include/chudopolk.h; the conversion back below reads it.
 impl From<Row> for Numbers {
     ghost use Rattle.chudopolk.specs.Rows.{numbers_of};
 
