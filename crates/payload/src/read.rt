@@ -46,20 +46,20 @@ impl Reading {
 
 // A level: its number, its rows from `first` to `stop`, and its bytes.
 #[derive(Clone, Copy)]
-pub struct Level {
-    pub number: u64,
-    pub first: usize,
-    pub stop: usize,
-    pub span: Span,
+struct Level {
+    number: u64,
+    first: usize,
+    stop: usize,
+    span: Span,
 }
 
 // A walk over a payload's bytes under a checked table: the rows of the members that were met, and how many unknown ones were skipped.
 #[derive(Clone, Copy)]
-pub struct Walker<'a> {
-    pub bytes: &'a [u8],
-    pub table: &'a CheckedTable,
-    pub rows: [Row; 64],
-    pub skipped: usize,
+struct Walker<'a> {
+    bytes: &'a [u8],
+    table: &'a CheckedTable,
+    rows: [Row; 64],
+    skipped: usize,
 }
 
 impl Walker<'_> {
