@@ -81,7 +81,8 @@ impl Walker<'_> {
 
     // Whether a required row of a level was not met.
     fn lacks(&self, level: Level) -> bool
-        requires { Stops self.now.table.now.cells level.first level.stop self.now.table.now.count level.number × (length self.now.rows ≡ 64) }
+        requires { Stops self.now.table.now.cells level.first level.stop self.now.table.now.count level.number
+            × (length self.now.rows ≡ 64) }
         ensures { result ≡ lacks_of level.number (drop level.first (types_in self.now)) (drop level.first (met_in self.now)) }
     {
         for i in level.first..level.stop {
