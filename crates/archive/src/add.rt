@@ -15,23 +15,26 @@ use wire::{number, part};
 // The form in which files are closed.
 const WRITTEN: Form = Form::One;
 
-// The answer to adding and closing: the verdict, and the records' or the file's new size, 0 on refusal.
+// The answer to adding and closing: the verdict, and the records' or the file's new size, 0 on refusal. No Result: `OneAdding` and
+// `OneClosing` speak of both fields on every verdict.
 #[derive(Clone, Copy)]
 pub struct Kept {
     pub verdict: Verdict,
     pub size: usize,
 }
 
-// The answer to a call that gave a size, or was refused.
-fn answer(outcome: Result<usize, Verdict>) -> Kept
-    ensures { result ≡ kept_as outcome }
-{
-    match outcome {
-        Ok(size) => Kept {
-            verdict: Verdict::Accepted,
-            size,
-        },
-        Err(verdict) => Kept { verdict, size: 0 },
+impl From<Result<usize, Verdict>> for Kept {
+    ghost from_gives = { λ r k. k ≡ kept_as r };
+
+    // The answer to a call that gave a size, or was refused.
+    fn from(outcome: Result<usize, Verdict>) -> Kept {
+        match outcome {
+            Ok(size) => Kept {
+                verdict: Verdict::Accepted,
+                size,
+            },
+            Err(verdict) => Kept { verdict, size: 0 },
+        }
     }
 }
 
@@ -82,11 +85,11 @@ pub fn add(file: &mut [u8], told: usize, m: &[u8]) -> Kept
     ensures { (result ≡ kept_by told (adding file.old told m.now))
         × (file.new ≡ file_by file.old told (adding file.old told m.now)) }
 {
-    answer(added(file, told, m))
+    Kept::from(added(file, told, m))
 }
 
-// The index of the records before `size`, stored behind them: each record's offset and Session ID. A `while`, since no index is counted:
-// `at` steps by the records' own sizes.
+// The index of the records before `size`, stored behind them: each record's offset and Session ID. A `while`: `at` steps by the records'
+// own sizes, and an iterator over them could not live beside the stores into the file that it reads.
 fn put_index(file: &mut [u8], f: Form, size: usize)
     requires { (is_whole (messages_to file.old size) ≡ true)
         × (size + entry_size f * length (listed (messages_to file.old size)) ≤ length file.old) }
@@ -136,5 +139,5 @@ pub fn close(file: &mut [u8], told: usize) -> Kept
     ensures { (result ≡ kept_by told (closing file.old told))
         × (file.new ≡ file_by file.old told (closing file.old told)) }
 {
-    answer(closed(file, told))
+    Kept::from(closed(file, told))
 }

@@ -14,7 +14,8 @@ use wire::id::SessionId;
 use wire::part::Part;
 use wire::{header, number, part};
 
-// The answer to reading and finding: the record's number from 1, and its message as a part of the file; 0 and empty on refusal.
+// The answer to reading and finding: the record's number from 1, and its message as a part of the file; 0 and empty on refusal. No Result:
+// `OneReading` and `OneFinding` speak of each field on every verdict.
 #[derive(Clone, Copy)]
 pub struct Found {
     pub verdict: Verdict,
@@ -36,21 +37,23 @@ struct Record {
     message: Part,
 }
 
-// The answer to a call that found a record, or was refused.
-fn answer(outcome: Result<Record, Verdict>) -> Found
-    ensures { result ≡ found_as outcome }
-{
-    match outcome {
-        Ok(record) => Found {
-            verdict: Verdict::Accepted,
-            number: record.number,
-            message: record.message,
-        },
-        Err(verdict) => Found {
-            verdict,
-            number: 0,
-            message: Part { at: 0, len: 0 },
-        },
+impl From<Result<Record, Verdict>> for Found {
+    ghost from_gives = { λ r f. f ≡ found_as r };
+
+    // The answer to a call that found a record, or was refused.
+    fn from(outcome: Result<Record, Verdict>) -> Found {
+        match outcome {
+            Ok(record) => Found {
+                verdict: Verdict::Accepted,
+                number: record.number,
+                message: record.message,
+            },
+            Err(verdict) => Found {
+                verdict,
+                number: 0,
+                message: Part { at: 0, len: 0 },
+            },
+        }
     }
 }
 
@@ -107,12 +110,12 @@ fn sought(file: &[u8], session: SessionId) -> Result<Record, Verdict>
 pub fn read(file: &[u8], n: usize) -> Found
     ensures { result ≡ reading_by n (archive_of file.now) }
 {
-    answer(shown(file, n))
+    Found::from(shown(file, n))
 }
 
 // Finds the first message of a file with a Session ID.
 pub fn find(file: &[u8], session: SessionId) -> Found
     ensures { result ≡ finding_by session.0 (archive_of file.now) }
 {
-    answer(sought(file, session))
+    Found::from(sought(file, session))
 }

@@ -12,7 +12,8 @@ use super::verdict::Verdict;
 use super::{form, records};
 use wire::{header, number};
 
-// The answer to opening: the records' size and the number of entries, both 0 on refusal.
+// The answer to opening: the records' size and the number of entries, both 0 on refusal. No Result: `OneOpening` speaks of each field on
+// every verdict.
 #[derive(Clone, Copy)]
 pub struct Opening {
     pub verdict: Verdict,
@@ -22,26 +23,28 @@ pub struct Opening {
 
 // What was found in a file that was opened: the records' size, behind which the index stands, and its number of entries.
 #[derive(Clone, Copy)]
-pub struct Index {
+pub(crate) struct Index {
     pub at: usize,
     pub entries: usize,
 }
 
-// The answer to opening a file that has an index, or was refused.
-fn answer(outcome: Result<Index, Verdict>) -> Opening
-    ensures { result ≡ opening_as outcome }
-{
-    match outcome {
-        Ok(index) => Opening {
-            verdict: Verdict::Accepted,
-            size: index.at,
-            entries: index.entries,
-        },
-        Err(verdict) => Opening {
-            verdict,
-            size: 0,
-            entries: 0,
-        },
+impl From<Result<Index, Verdict>> for Opening {
+    ghost from_gives = { λ r o. o ≡ opening_as r };
+
+    // The answer to opening a file that has an index, or was refused.
+    fn from(outcome: Result<Index, Verdict>) -> Opening {
+        match outcome {
+            Ok(index) => Opening {
+                verdict: Verdict::Accepted,
+                size: index.at,
+                entries: index.entries,
+            },
+            Err(verdict) => Opening {
+                verdict,
+                size: 0,
+                entries: 0,
+            },
+        }
     }
 }
 
@@ -55,8 +58,8 @@ fn entry_agrees(file: &[u8], f: Form, to: usize, at: usize) -> bool
         && header::two_at(file, to + w) == records::session_at(file, at).0
 }
 
-// Whether the entries from `size` to `end` are those of the records before `size`. The walk has found them whole, and as many. A `while`,
-// since no index is counted: `at` steps by the records' own sizes.
+// Whether the entries from `size` to `end` are those of the records before `size`. The walk has found them whole, and as many. A `while`:
+// `at` steps by the records' own sizes, which no range or chunk has, and `to` goes with it.
 fn index_agrees(file: &[u8], f: Form, size: usize, end: usize) -> bool
     requires { (is_whole (messages_to file.now size) ≡ true) × (size ≤ limit f)
         × (size + entry_size f * length (listed (messages_to file.now size)) ≡ end) × (end ≤ length file.now) }
@@ -115,5 +118,5 @@ pub(crate) fn opened(file: &[u8]) -> Result<Index, Verdict>
 pub fn open(file: &[u8]) -> Opening
     ensures { result ≡ opening_by (archive_of file.now) }
 {
-    answer(opened(file))
+    Opening::from(opened(file))
 }

@@ -19,8 +19,8 @@ pub struct Expectation {
     pub kind: u8,
 }
 
-// The answer to a reading: verdict and its return code, or 256 where it has none; place and count; what the header hands on; and the parts of
-// the datagram, each as the place of its first byte and its length.
+// The answer to a reading: verdict and its return code, or 256 where it has none; place and count; what the header hands on; and the parts
+// of the datagram, each as the place of its first byte and its length.
 #[repr(C)]
 #[derive(Clone, Copy)]
 pub struct Answer {

@@ -100,11 +100,10 @@ fn by_session(word: &[u8]) -> Result<Asked, Complaint<'_>> {
 fn number_within(word: &[u8], most: u64) -> Result<u64, Complaint<'_>>
     ensures { IfOk result (λ n. n ≤ most) }
 {
-    match number::parse(word) {
-        Ok(n) if n <= most => Ok(n),
-        Err(NumberError::NotANumber) => Err(Complaint::NoNumber { word }),
-        _ => Err(Complaint::Over { word, most }),
-    }
+    number::parse_within(word, most).map_err(|error| match error {
+        NumberError::NotANumber => Complaint::NoNumber { word },
+        NumberError::TooLarge => Complaint::Over { word, most },
+    })
 }
 
 #[cfg(test)]

@@ -5,7 +5,8 @@
 ghost use Rattle.std.specs.Prelude.{◌≡◌};
 ghost use Rattle.message.specs.MessageType.{is_one};
 
-// A number in a header's place of the Message Type.
+// A number in a header's place of the Message Type. No enum, for a caller may hand in any, and one that is none of the five has its
+// verdict.
 #[derive(Clone, Copy, PartialEq, Eq, Debug)]
 pub struct MessageType(pub u8);
 

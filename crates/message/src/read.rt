@@ -23,7 +23,8 @@ pub struct Expected {
     pub kind: MessageType,
 }
 
-// What a header hands on as found, and the parts of the datagram. `found_code` is the header's Return Code; the verdict's is another thing.
+// What a header hands on as found, and the parts of the datagram; 0 and empty where the header isn't looked at, and no Option, for
+// `HandsOn` says so of each field. `found_code` is the header's Return Code; the verdict's is another thing.
 #[derive(Clone, Copy)]
 pub struct Head {
     pub client: ClientId,
@@ -33,7 +34,8 @@ pub struct Head {
     pub rest: Part,
 }
 
-// The answer to a message: what the header hands on, and the payload's reading, whose verdict is the message's.
+// The answer to a message: what the header hands on, and the payload's reading, whose verdict is the message's. No Result: on a refusal
+// both are settled too (`OneAnswer`).
 #[derive(Clone, Copy)]
 pub struct MessageReading {
     pub head: Head,

@@ -13,7 +13,8 @@ use payload::table::Table;
 use payload::write::Written;
 use wire::verdict::Verdict;
 
-// The answer to a message whose rows are lent: the verdict, its place, the count of skipped members, and what the header hands on.
+// The answer to a message whose rows are lent: the verdict, its place, the count of skipped members, and what the header hands on. No
+// Result: on a refusal each field is settled too (`OneLent`).
 #[derive(Clone, Copy)]
 pub struct Answered {
     pub head: Head,

@@ -49,7 +49,8 @@ impl Float for f64 {
     }
 }
 
-// Why a word is no float's decimal: it is none; it has more than 18 digits or an exponent that no float has; or it is too large for the float.
+// Why a word is no float's decimal: it is none; it has more than 18 digits or an exponent that no float has; or it is too large for the
+// float.
 #[derive(Clone, Copy, Debug, PartialEq, Eq)]
 pub enum DecimalError {
     NotADecimal,
@@ -130,8 +131,8 @@ pub fn bits<F: Float>(word: &[u8]) -> Result<u64, DecimalError>
     float.finite_bits().ok_or(DecimalError::TooLarge)
 }
 
-// A finite float from 0 on, printed by the fewest digits that are read back as the same float: plain from 0.00001 up to 17 digits before the
-// point, with an exponent else.
+// A finite float from 0 on, printed by the fewest digits that are read back as the same float: plain from 0.00001 up to 17 digits before
+// the point, with an exponent else.
 #[derive(Clone, Copy)]
 pub struct Shortest<F>(pub F);
 

@@ -1,5 +1,5 @@
-// Text that people write, for the programs: arguments, a file or an input read to its end, words and numbers in a line, floats as decimals, and
-// quotations.
+// Text that people write, for the programs: arguments, a file or an input read to its end, words and numbers in a line, floats as decimals,
+// and quotations.
 //
 // No function that a program calls has a premise: whatever stands in a text is answered.
 

@@ -23,7 +23,8 @@ fn width(first: u8) -> usize
     }
 }
 
-// Whether a character is printed as it is: by its first byte, and where that leaves it open by its second, which past the text's end counts as 0.
+// Whether a character is printed as it is: by its first byte, and where that leaves it open by its second, which past the text's end counts
+// as 0.
 fn is_plain(character: &[u8]) -> bool {
     let first = character.first().copied().unwrap_or(0);
     let second = character.get(1).copied().unwrap_or(0);
@@ -73,7 +74,8 @@ pub fn write<W: Write>(out: &mut W, text: &[u8]) -> io::Result<()> {
     out.write_all(b"\"")
 }
 
-// Why a quotation has no text: a mark is missing at its end; a backslash stands before what is no escape; or it is more than there is room for.
+// Why a quotation has no text: a mark is missing at its end; a backslash stands before what is no escape; or it is more than there is room
+// for.
 #[derive(Clone, Copy, Debug, PartialEq, Eq)]
 pub enum QuoteError {
     Open,
@@ -111,8 +113,8 @@ fn escape(text: &[u8]) -> Option<(u8, &[u8])>
     }
 }
 
-// Puts the text of a quotation, which begins with its mark, behind a content that may have at most so many bytes. Where there is none, the content
-// has a part of it.
+// Puts the text of a quotation, which begins with its mark, behind a content that may have at most so many bytes. Where there is none, the
+// content has a part of it.
 pub fn read(quotation: &[u8], content: &mut Vec<u8>, most: usize) -> Result<(), QuoteError>
     ensures bound { vec_len content.new ≤ max most (vec_len content.old) }
     ensures kept { StartsWith content.new.items content.old.items }

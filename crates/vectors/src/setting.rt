@@ -12,8 +12,8 @@ use wire::id::{ClientId, MethodId, ServiceId, SessionId};
 // The bytes of a value row.
 const RECORD: usize = 26;
 
-// What is set: for reading the table, the lent rows' number and the expectation; for writing header, rows and content. As many rows are lent
-// for writing as stood in the line, which may be more than the 64 that the library takes.
+// What is set: for reading the table, the lent rows' number and the expectation; for writing header, rows and content. As many rows are
+// lent for writing as stood in the line, which may be more than the 64 that the library takes.
 #[derive(Drop)]
 pub struct Setting {
     pub table: Table,

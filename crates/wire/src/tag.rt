@@ -1,4 +1,5 @@
-// A tag's parts, and how many bytes a wire type has after it.
+// A tag's parts, and how many bytes a wire type has after it. Wire types are numbers and no enum: a tag has any of 0 to 7, and these
+// functions answer for every number.
 
 ghost use Rattle.std.specs.Prelude.{◌≡◌, ◌≤◌, ◌<◌};
 ghost use Rattle.wire.specs.Tag.{wire_of, ident_of, tag_of, fixed_size, field_width};

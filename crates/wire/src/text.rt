@@ -34,8 +34,8 @@ fn is_plain(b: u8) -> bool
     matches!(b, 0x01..=0x7F)
 }
 
-// What is left behind the plain bytes that a text begins with; where fewer than four are left, those stay. By fours they take a quarter fewer
-// instructions than by `position` over the whole text.
+// What is left behind the plain bytes that a text begins with; where fewer than four are left, those stay. By fours they take a quarter
+// fewer instructions than by `position` over the whole text.
 fn plain_passed(text: &[u8]) -> &[u8]
     ensures shorter { length result.now ≤ length text.now }
     ensures same { text_fits text.now ≡ text_fits result.now }
