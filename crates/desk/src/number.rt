@@ -32,14 +32,8 @@ impl Number {
     // The number as a row of its own.
     pub fn row(self) -> Row {
         match self {
-            Number::Unsigned(n) => Row {
-                value: Value::Unsigned(n),
-                bits: 0,
-            },
-            Number::Signed(z) => Row {
-                value: Value::Signed(z),
-                bits: 0,
-            },
+            Number::Unsigned(n) => Row::plain(Value::Unsigned(n)),
+            Number::Signed(z) => Row::plain(Value::Signed(z)),
             Number::Float(Float { precision, bits }) => float_row(precision, bits),
         }
     }

@@ -59,13 +59,10 @@ fn without_place(words: Words<'_>) -> Words<'_> {
 
 // The row of the content from a place on.
 fn run(place: usize, content: &[u8]) -> Row {
-    Row {
-        value: Value::Bytes {
-            place,
-            len: content.len().saturating_sub(place),
-        },
-        bits: 0,
-    }
+    Row::plain(Value::Bytes {
+        place,
+        len: content.len().saturating_sub(place),
+    })
 }
 
 // What is wrong with a quotation.
@@ -114,17 +111,8 @@ fn read_struct(words: Words<'_>) -> Result<Row, ValueFault<'_>> {
     if !is_one_of(&["members", "present"], word) {
         return Err(ValueFault::Content(ContentFault::NoStruct(word)));
     }
-    Ok(Row {
-        value: Value::Members,
-        bits: 0,
-    })
+    Ok(Row::plain(Value::Members))
 }
-
-// An absent row.
-pub const ABSENT: Row = Row {
-    value: Value::Absent,
-    bits: 0,
-};
 
 // The value of a row of a kind. Texts and arrays go behind the content.
 pub fn read<'a>(
@@ -135,7 +123,7 @@ pub fn read<'a>(
     let mut behind = words;
     if line::next_word(&mut behind).eq_ignore_ascii_case(b"absent") {
         line::ends(behind)?;
-        return Ok(ABSENT);
+        return Ok(Row::ABSENT);
     }
     match kind {
         Kind::Scalar(scalar) => read_number(scalar, words),

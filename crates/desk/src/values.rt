@@ -127,7 +127,7 @@ impl Values {
 
     // The rows of the table. Those that no line gives are absent.
     pub fn rows(&self) -> [Row; 64] {
-        let mut rows = [value::ABSENT; 64];
+        let mut rows = [Row::ABSENT; 64];
         for given in &self.given {
             if let Some(row) = rows.get_mut(given.index) {
                 *row = given.row;
