@@ -125,7 +125,7 @@ impl Values {
         }
     }
 
-    // The rows of the table. Those that no line gives are absent.
+    // The rows of the table, in the form that the library takes. Those that no line gives are absent.
     pub fn rows(&self) -> [Row; 64] {
         let mut rows = [Row::ABSENT; 64];
         for given in &self.given {

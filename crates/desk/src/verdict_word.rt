@@ -1,6 +1,5 @@
 // The verdicts in the scope paper's words.
 
-use std::fmt;
 use wire::verdict::Verdict;
 
 // The verdicts in the order of their numbers, and how many there are.
