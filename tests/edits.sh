@@ -23,8 +23,9 @@ places() {
     sed -nE 's/^(note: )?(\.\/)?((src|proofs|specs)\/[^ :]+):([0-9]+):[0-9]+: (error: `([^` ]+)|error: |it is not proved).*/\3 \5 \7/p'
 }
 
-# The function in whose text a place lies, or whose proof a file is, as crate::module::Type::name; nothing of the file of a lemma or of a
-# definition. Edits change no number of lines. The proofs of a cycle lie in one folder, and each goal begins with its function's name.
+# The function in whose text a place lies, at an attribute the one behind it, or whose proof a file is, as crate::module::Type::name; nothing
+# of the file of a lemma or of a definition. Edits change no number of lines. The proofs of a cycle lie in one folder, and each goal begins
+# with its function's name.
 function_at() { # CRATE FILE LINE [GOAL]
     module=$(basename "$2" .rt)
     case $2 in
@@ -39,7 +40,8 @@ function_at() { # CRATE FILE LINE [GOAL]
     esac
     case $module in lib | main) module='' ;; *) module=::$module ;; esac
     awk -v at="$3" -v name="$1$module" '
-        NR > at { exit }
+        NR > at && !ahead { exit }
+        NR == at && /^ *#\[/ { ahead = 1 }
         /^}/ { type = "" }
         # A trait of its own has a name of both: From<Fields> for Header is HeaderFromFields, as rt names it.
         /^impl/ {
@@ -49,7 +51,7 @@ function_at() { # CRATE FILE LINE [GOAL]
             sub(/^impl */, "", trait); gsub(/&/, "Ref", trait); gsub(/[^A-Za-z0-9_]/, "", trait)
             type = "::" type trait
         }
-        !/^ *\/\// && match($0, /fn [a-z_0-9]+/) { last = type "::" substr($0, RSTART + 3, RLENGTH - 3) }
+        !/^ *\/\// && match($0, /fn [a-z_0-9]+/) { last = type "::" substr($0, RSTART + 3, RLENGTH - 3); if (NR > at) exit }
         END { if (last) print name last }' "crates/$1/$2"
 }
 

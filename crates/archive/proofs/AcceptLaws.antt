@@ -128,15 +128,6 @@ module _ (file : List ℕ) where
   pub is_held : (f : Form) (ms : List (List ℕ)) → file ≡ file_of f ms → AreMessages ms → length file ≤ limit f → archive_of file ≡ holds f ms
   is_held f ms is are few = rw is (file_holds f ms are (rw (← is) few))
 
-  -- no refusal is an acceptance
-  pub refused_other : (v : Verdict) → archive_of file ≡ refused v → v ≡ Accepted → ⊥
-  refused_other v = go (archive_of file) (opens file)
-    where
-      go : (a : Archive) → Opens file a → a ≡ refused v → v ≡ Accepted → ⊥
-      go a (no_trailer x) e q = let z : ◌≡◌ {A = ℕ} 0 1 = cc in omega arith
-      go a (no_records x y) e q = let z : ◌≡◌ {A = ℕ} 0 1 = cc in omega arith
-      go a (opened has f ms is are few) e q = let z : ◌≡◌ {A = ℕ} 0 1 = cc in omega arith
-
   -- when opening has each verdict
   given : (v : Verdict) → (opening_by (archive_of file)).verdict ≡ v → OpenedWhen file v
   given v = go (archive_of file) (opens file)

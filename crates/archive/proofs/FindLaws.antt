@@ -14,17 +14,12 @@ use Rattle.wire.specs.Choose.{pick}
 use Rattle.wire.specs.Number.{AreBytes}
 use Rattle.wire.specs.Part.{part}
 use Rattle.wire.specs.Header.{field_at, session_of}
-use Rattle.archive.specs.declared.verdict.Verdict.{Verdict}
 use Rattle.archive.specs.declared.verdict.Verdict.TheVariants.{Accepted, NoRecord}
 use Rattle.archive.specs.declared.form.Form.{Form}
-use Rattle.archive.specs.declared.form.Form.TheVariants.{One}
-use Rattle.archive.specs.declared.open.Index.{Index}
-use Rattle.std.specs.Prelude.{Ok, Err}
-use Rattle.archive.specs.Form.{offset_width, entry_size, limit, AreMessages, records_bytes, file_of}
+use Rattle.archive.specs.Form.{offset_width, entry_size, limit, AreMessages, file_of}
 use Rattle.archive.specs.Opening.{Archive, refused, holds, archive_of}
 use Rattle.archive.specs.Finding.{message_at, offset_at, none_found, reading_by, counted, first_of, first_in}
-use Rattle.archive.specs.Walking.{InForm, not_opened, opened, Opened, opened_by}
-use Rattle.archive.proofs.FormLaws.{one_form}
+use Rattle.archive.specs.Walking.{Opened}
 use Rattle.archive.proofs.RecordLaws.{length_file}
 use Rattle.archive.proofs.PlaceLaws.{record_there, file_length, file_offset, file_session}
 use Rattle.archive.proofs.AcceptLaws.{held_is}
@@ -35,30 +30,6 @@ use Rattle.archive.proofs.AcceptLaws.{held_is}
 abbrev pub held_by : Archive → List (List ℕ)
 held_by (refused v) = []
 held_by (holds f ms) = ms
-
-module _ (file : List ℕ) where
-  -- a file with an index was opened
-  pub index_opened : (f : Form) → InForm f (archive_of file) → (i : Index) → Ok i ≡ opened_by (archive_of file) → Opened file f i.at i.entries
-  index_opened f form i e = go (archive_of file) form refl e
-    where
-      go : (a : Archive) → InForm f a → archive_of file ≡ a → Ok i ≡ opened_by a → Opened file f i.at i.entries
-      go a (not_opened v) d e = cc
-      go a (opened ms) d e =
-          let same : i ≡ record { at = length (records_bytes ms); entries = length ms } = cc in
-          record { messages = ms; are_held = d; size_is = ap (λ (x : Index). x.at) same; count_is = ap (λ (x : Index). x.entries) same }
-
-  -- one without is refused by the same verdict
-  pub index_refused : (v : Verdict) → Err v ≡ opened_by (archive_of file) → archive_of file ≡ refused v
-  index_refused v e = go (archive_of file) e
-    where
-      go : (a : Archive) → Err v ≡ opened_by a → a ≡ refused v
-      go (refused w) e = cc
-      go (holds f ms) e = cc
-
--- there is one form
-pub in_one : (a : Archive) → InForm One a
-in_one (refused v) = not_opened v
-in_one (holds g ms) = rw (one_form g) (opened ms)
 
 module _ (file : List ℕ) (f : Form) (size count : ℕ) (o : Opened file f size count) where
   abbrev ms : List (List ℕ)

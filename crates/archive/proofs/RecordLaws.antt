@@ -1,18 +1,18 @@
 -- Whole records: what was put together is cut as it was, and what was cut was put together so.
 -- Assumes nothing.
 use mathlib.Core.Path.{◌≡◌, refl, sym, ap, subst, ◌∙◌}
-use Prim.Native.Nat.{ℕ, zero, suc, ◌+◌, ◌-◌, ◌*◌, ◌≤◌, ◌<◌}
+use Prim.Native.Nat.{ℕ, zero, suc, ◌+◌, ◌*◌, ◌≤◌, ◌<◌}
 use native.Mathlib.Omega.{arith}
 use mathlib.Core.Bool.{Bool, true, false}
 use mathlib.Core.Option.{Option, none, some, none-ne-some, some-injective}
 use mathlib.Core.List.{List, [], ◌∷◌, ◌++◌, append_assoc}
 use lib.ListN.{length, take, drop, length-append, length-drop, take-append-drop}
 use lib.Seq.{length-take-le, take_at, drop_at, take-add}
-use lib.Dec.{leb, eqb}
-use borrow.Author.Tests.{le-leb, lt-leb, leb-true}
+use lib.Dec.{leb}
+use borrow.Author.Tests.{le-leb, leb-true}
 use Rattle.wire.specs.Choose.{pick}
 use Rattle.wire.specs.Number.{AreBytes, big, number_bytes}
-use Rattle.wire.specs.Header.{field_at, header_len, length_of}
+use Rattle.wire.specs.Header.{field_at, header_len}
 use Rattle.wire.proofs.ChooseLaws.{and_left, and_right}
 use Rattle.wire.proofs.NumberLaws.{length_number_bytes, number_back, bytes_back, bytes_take}
 use Rattle.archive.specs.declared.form.Form.{Form}
@@ -74,19 +74,6 @@ module _ (m : List ℕ) (h : message_fits m ≡ true) where
   pub message_most_lem : length m ≤ message_most
   unfolding message_fits
   message_most_lem = leb-true (length m) message_most (and_left _ _ (and_right (leb header_len (length m)) _ h))
-
--- the test, as the code goes
-pub message_short : (m : List ℕ) → length m < header_len → false ≡ message_fits m
-unfolding message_fits
-message_short m h = rw (lt-leb header_len (length m) h)
-
-pub message_long : (m : List ℕ) → header_len ≤ length m → message_most < length m → false ≡ message_fits m
-unfolding message_fits
-message_long m h k = rw (le-leb header_len (length m) h, lt-leb (length m) message_most k)
-
-pub message_by : (m : List ℕ) → header_len ≤ length m → length m ≤ message_most → eqb (length_of m) (length m - 8) ≡ message_fits m
-unfolding message_fits
-message_by m h k = rw (le-leb header_len (length m) h, le-leb (length m) message_most k)
 
 -- ---- lists of messages
 

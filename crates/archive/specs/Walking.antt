@@ -56,11 +56,6 @@ pub record Trailed (file : List ℕ) (f : Form) (size n end : ℕ) : Type 0 wher
   pub index_in : size + entry_size f * n ≤ end
   pub most : length file ≤ limit f
 
--- if a file was opened, then in this form
-pub data InForm (f : Form) : Archive → Type 0 where
-  not_opened : (v : Verdict) → InForm f (refused v)
-  opened : (ms : List (List ℕ)) → InForm f (holds f ms)
-
 -- the file was opened: it holds n messages in a form, and their records have `size` bytes
 pub record Opened (file : List ℕ) (f : Form) (size n : ℕ) : Type 0 where
   pub messages : List (List ℕ)

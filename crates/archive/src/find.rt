@@ -4,7 +4,7 @@ ghost use Rattle.std.specs.Prelude.{◌≡◌, unwrap_or};
 ghost use Rattle.wire.specs.Part.{part_of};
 ghost use Rattle.archive.specs.Opening.{archive_of};
 ghost use Rattle.archive.specs.Finding.{reading_by, first_in, finding_by};
-ghost use Rattle.archive.specs.Walking.{InForm, Opened, opened_by, found_as};
+ghost use Rattle.archive.specs.Walking.{Opened, found_as};
 
 use super::form::Form;
 use super::open::Index;

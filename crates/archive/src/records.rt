@@ -15,7 +15,7 @@ use wire::{header, number};
 pub const MESSAGE_MOST: usize = 65535;
 
 // Whether bytes are a message: 16 to 65,535 bytes whose Length is their number less 8.
-#[tactic(auto, using(std::proofs::lemmas::Bool::Decides::nat_tests), unfolding(crate::specs::Form::message_fits, wire::specs::Header::field_at))]
+#[tactic(auto, unfolding(crate::specs::Form::message_fits, wire::specs::Header::field_at))]
 pub fn is_message(m: &[u8]) -> bool
     ensures { result ≡ message_fits m.now }
 {

@@ -51,7 +51,7 @@ struct Case {
     ghost short: { vec_len file ≤ 131072 },
 }
 
-// The answer to a case but for the file's bytes: a verdict's number and three numbers, 0 where an operation has no such.
+// The answer to a case but for the file's bytes: a verdict's number and three numbers. Its form has 0 where an operation has no such.
 #[derive(Clone, Copy)]
 struct Answer {
     verdict: u8,

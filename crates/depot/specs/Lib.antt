@@ -1,3 +1,4 @@
 pub mod Layout
 pub mod Record
 pub mod Asked
+pub mod Trailer

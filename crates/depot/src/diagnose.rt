@@ -1,20 +1,12 @@
 // What is first wrong with a file or a message that the library refuses, looked for in the order in which the library tests.
 
-ghost use Rattle.std.specs.Prelude.{◌<◌};
-
 use super::layout;
-use super::layout::{FORM, ROOM, Trailer};
+use super::layout::{FORM, ROOM};
 use super::reason::{MessageFault, RecordFault, RecordsFault, TrailerFault};
 use super::record::{Record, Records};
+use super::trailer::Trailer;
 use archive::{form, records};
 use wire::header;
-
-// Where the index ends, by what the trailer says.
-fn index_end(trailer: Trailer) -> usize
-    requires { (trailer.size < 4294967296) × (trailer.entries < 65536) }
-{
-    trailer.size + layout::index_size(trailer.entries)
-}
 
 // Why a file gets the verdict of the trailer.
 pub fn trailer_fault(file: &[u8]) -> TrailerFault {
@@ -24,14 +16,14 @@ pub fn trailer_fault(file: &[u8]) -> TrailerFault {
     if FORM.limit() < file.len() {
         return TrailerFault::Long;
     }
-    let trailer = layout::trailer_of(file);
+    let trailer = Trailer::of(file);
     if trailer.form as u64 != FORM.number() {
         return TrailerFault::Form { form: trailer.form };
     }
     TrailerFault::Index {
         offset: trailer.size,
         entries: trailer.entries,
-        end: index_end(trailer),
+        end: trailer.index_end(),
         start: trailer.at,
     }
 }
@@ -74,9 +66,7 @@ fn record_fault(record: Record, end: usize) -> Option<RecordsFault> {
 }
 
 // Why the records' number or the index's size is not what the trailer says, where it isn't.
-fn count_fault(file: &[u8], trailer: Trailer) -> Option<RecordsFault>
-    requires { (trailer.size < 4294967296) × (trailer.entries < 65536) }
-{
+fn count_fault(file: &[u8], trailer: Trailer) -> Option<RecordsFault> {
     let found = Records::before(file, trailer.size).count();
     if found != trailer.entries {
         return Some(RecordsFault::Count {
@@ -84,7 +74,7 @@ fn count_fault(file: &[u8], trailer: Trailer) -> Option<RecordsFault>
             found,
         });
     }
-    let end = index_end(trailer);
+    let end = trailer.index_end();
     if end != trailer.at {
         return Some(RecordsFault::Cover {
             end,
@@ -94,12 +84,10 @@ fn count_fault(file: &[u8], trailer: Trailer) -> Option<RecordsFault>
     None
 }
 
-// Why a record's entry in the index, which stands at a place, is not the record's, where it isn't.
-fn entry_fault(file: &[u8], index: usize, record: Record) -> Option<RecordsFault>
-    requires { index < 4294967296 }
-{
+// Why a record's entry in the index is not the record's, where it isn't.
+fn entry_fault(file: &[u8], trailer: Trailer, record: Record) -> Option<RecordsFault> {
     let number = record.number;
-    let entry = index + FORM.entry_size() * (number - 1);
+    let entry = trailer.size + FORM.entry_size() * (number - 1);
     let offset = layout::two_at(file, entry);
     if offset != record.at {
         return Some(RecordsFault::Offset {
@@ -122,12 +110,13 @@ fn entry_fault(file: &[u8], index: usize, record: Record) -> Option<RecordsFault
 
 // Why a file gets the verdict of the records.
 pub fn records_fault(file: &[u8]) -> Option<RecordsFault> {
-    let trailer = layout::trailer_of(file);
-    let end = trailer.size;
-    Records::before(file, end)
-        .find_map(|record| record_fault(record, end))
+    let trailer = Trailer::of(file);
+    Records::before(file, trailer.size)
+        .find_map(|record| record_fault(record, trailer.size))
         .or_else(|| count_fault(file, trailer))
-        .or_else(|| Records::before(file, end).find_map(|record| entry_fault(file, end, record)))
+        .or_else(|| Records::before(file, trailer.size).find_map(|record| entry_fault(
+            file, trailer, record,
+        )))
 }
 
 // How many bytes an archive would have with one message more behind the records of a file, which have `told` bytes.

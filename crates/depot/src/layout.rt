@@ -1,10 +1,9 @@
-// What stands where in a file, for any bytes: the trailer's fields, and the record at a place. For this program's own files.
+// What stands where in a file, for any bytes: numbers, and the record at a place. For this program's own files.
 
 ghost use Rattle.std.specs.Prelude.{◌≡◌, ◌+◌, ◌*◌, ◌^◌, ◌<◌, ◌≤◌, IfSome, IfNone, length};
 ghost use Rattle.wire.specs.Header.{field_at};
 ghost use Rattle.wire.specs.Part.{part, part_of};
-ghost use Rattle.archive.specs.Opening.{trailer_at};
-ghost use Rattle.depot.specs.Layout.{field_or, TrailerOf};
+ghost use Rattle.depot.specs.Layout.{field_or};
 
 use archive::form;
 use archive::form::Form;
@@ -50,35 +49,6 @@ pub fn index_size(entries: usize) -> usize
     ensures { (result ≡ 4 * entries) × (result ≤ 262144) }
 {
     FORM.entry_size() * entries
-}
-
-// Where the trailer starts, and what it says: the index's offset, which is the records' size, the number of entries, the form number.
-#[derive(Clone, Copy)]
-pub struct Trailer {
-    pub at: usize,
-    pub size: usize,
-    pub entries: usize,
-    pub form: usize,
-}
-
-// Where the trailer starts: 0 in a file that is shorter.
-fn trailer_at(file: &[u8]) -> usize
-    ensures { result ≡ trailer_at file.now }
-{
-    file.len().saturating_sub(form::TRAILER_LEN)
-}
-
-// The trailer of a file that has one.
-pub fn trailer_of(file: &[u8]) -> Trailer
-    ensures { TrailerOf file.now result × (result.size < 4294967296) × (result.entries < 65536) }
-{
-    let at = trailer_at(file);
-    Trailer {
-        at: at,
-        size: four_at(file, at),
-        entries: two_at(file, at + form::ENTRIES_AT),
-        form: two_at(file, at + form::FORM_AT),
-    }
 }
 
 // Where the record at a place ends, by its length. For this program's own walks, whose places have at most 32 bits.

@@ -19,6 +19,7 @@ mod reason;
 mod record;
 mod show;
 mod store;
+mod trailer;
 
 use archive::open::Opening;
 use command::Command;

@@ -2,6 +2,7 @@
 
 use super::layout;
 use super::record::Records;
+use super::trailer::Trailer;
 use archive::find::Found;
 use archive::open::Opening;
 use archive::{find, form};
@@ -41,7 +42,7 @@ fn write_message_line(
 // An archive's line, and behind it the line of each of its messages.
 pub fn list(out: &mut impl Write, file: &[u8], opening: Opening) -> io::Result<()> {
     write_archive_line(out, file, opening)?;
-    for record in Records::before(file, layout::trailer_of(file).size) {
+    for record in Records::before(file, Trailer::of(file).size) {
         write_message_line(out, record.number, record.at, record.message)?;
     }
     Ok(())

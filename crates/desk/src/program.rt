@@ -145,7 +145,9 @@ impl<'a, R: Files + Input + AllocGlobal, O: Write, E: Write> Program<'a, R, O, E
     ) -> io::Result<()> {
         match command {
             Command::Show(content) => self.show(arguments, content, sheet),
-            Command::Make => self.make(arguments.get(3).unwrap_or(b"-"), sheet),
+            Command::Make if arguments.len() <= 3 => self.make(b"-", sheet),
+            // An argument that is too long is the name of no file.
+            Command::Make => self.make(arguments.get(3).unwrap_or(&[]), sheet),
         }
     }
 

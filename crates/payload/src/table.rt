@@ -56,7 +56,7 @@ impl CheckedTable {
     }
 
     // The cell of a row.
-    pub fn cell(&self, i: usize) -> u64
+    pub(crate) fn cell(&self, i: usize) -> u64
         requires { i < self.now.count }
         ensures is { result ≡ get_or self.now.cells i 0 }
         ensures fine { FineRow (row_in result) }
@@ -65,7 +65,7 @@ impl CheckedTable {
     }
 
     // Where the rows of a level end that begin at `first`: at the first row above the level, or with the table.
-    pub fn level_end(&self, first: usize, level: u64) -> usize
+    pub(crate) fn level_end(&self, first: usize, level: u64) -> usize
         requires { first ≤ self.now.count }
         ensures { Stops self.now.cells first result self.now.count level }
     {
@@ -78,7 +78,7 @@ impl CheckedTable {
     }
 
     // The row of a Data ID among the direct members of the level whose rows are those from `first` to `stop`.
-    pub fn find(&self, first: usize, stop: usize, level: u64, ident: u64) -> Option<usize>
+    pub(crate) fn find(&self, first: usize, stop: usize, level: u64, ident: u64) -> Option<usize>
         requires { Stops self.now.cells first stop self.now.count level × (level < 16) × (ident < 4096) }
         ensures is { result ≡ search_at self.now.count self.now.cells level ident first }
         ensures within { Within self.now.cells first self.now.count level result }
@@ -251,8 +251,7 @@ fn rises(before: bool, last: u64, ident: u64) -> bool
 }
 
 // Whether a table keeps its rules, with its rows' cells. Data IDs that rise in each struct differ; only others are compared one by one.
-// For the library's own readers and writers; users call `table_fits`.
-pub fn checked(t: &Table, cells: &mut [u64; 64]) -> bool
+fn checked(t: &Table, cells: &mut [u64; 64]) -> bool
     requires { length cells.old ≡ 64 }
     ensures { Checked t.now cells.new result }
 {

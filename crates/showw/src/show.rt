@@ -8,7 +8,7 @@ use std::io::Write;
 use std::{fmt, io, iter};
 use text::say::OrNone;
 
-// What a row shows. Floats are shown by their bits; table W has none.
+// What a row shows. Floats are shown by their bits; table W has none. desk and vectors say rows in other words, so each has its own.
 #[derive(Clone, Copy)]
 struct Shown(Row);
 

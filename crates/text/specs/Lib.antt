@@ -1,1 +1,4 @@
+pub mod Argument
+pub mod Decimal
 pub mod Number
+pub mod Word

@@ -1,6 +1,7 @@
 // The program's arguments, as bytes. Argument 0 is the program's name.
 
-ghost use Rattle.std.specs.Prelude.{◌≤◌, IfSome, length};
+ghost use Rattle.std.specs.Prelude.{◌≡◌, ◌≤◌, All, IfSome, length, vec_len};
+ghost use Rattle.text.specs.Argument.{bytes_of};
 
 use std::alloc::{AllocError, Global};
 use std::env::FillError;
@@ -13,6 +14,7 @@ pub const MOST: usize = 4096;
 #[derive(Drop)]
 pub struct Arguments {
     all: Vec<Option<Vec<u8>>>,
+    ghost short: { All (λ text. length (bytes_of text) ≤ 4096) all.items },
 }
 
 impl Arguments {
@@ -30,12 +32,16 @@ impl Arguments {
     }
 
     // How many arguments there are, the program's name among them.
-    pub fn len(&self) -> usize {
+    pub fn len(&self) -> usize
+        ensures { result ≡ vec_len self.now.all }
+    {
         self.all.len()
     }
 
     // An argument, unless it is missing or too long.
-    pub fn get(&self, i: usize) -> Option<&[u8]> {
+    pub fn get(&self, i: usize) -> Option<&[u8]>
+        ensures { IfSome result (λ text. length text.now ≤ 4096) }
+    {
         self.all.get(i)?.as_ref().map(|text| text.as_slice())
     }
 }

@@ -1,5 +1,9 @@
 // Floats from 0 on as decimals: digits with a point, and an exponent behind e.
 
+ghost use Rattle.std.specs.Prelude.{◌≡◌, ℕ, IfOk, IfSome, to_bits};
+ghost use Rattle.std.specs.Float.{binary32, binary64};
+ghost use Rattle.text.specs.Decimal.{IsBitsOfRead, decimal_error_of};
+
 use super::number;
 use super::number::NumberError;
 use arrayvec::ArrayString;
@@ -21,17 +25,25 @@ const MOST_BEFORE: i64 = 309;
 
 // The float32 and the float64, which holds each of the other.
 pub trait Float: Copy + PartialEq + FromStr<Err = ParseFloatError> + Into<f64> {
+    // Whether a number has the bits of a float.
+    ghost has_bits: { Self → ℕ → Type 0 };
+
     // The bits as a number, but of infinity and a NaN.
-    fn finite_bits(self) -> Option<u64>;
+    fn finite_bits(self) -> Option<u64>
+        ensures { IfSome result (has_bits self) };
 }
 
 impl Float for f32 {
+    ghost has_bits = { λ x n. n ≡ to_bits binary32 x };
+
     fn finite_bits(self) -> Option<u64> {
         self.is_finite().then(|| u64::from(self.to_bits()))
     }
 }
 
 impl Float for f64 {
+    ghost has_bits = { λ x n. n ≡ to_bits binary64 x };
+
     fn finite_bits(self) -> Option<u64> {
         self.is_finite().then(|| self.to_bits())
     }
@@ -46,6 +58,8 @@ pub enum DecimalError {
 }
 
 impl From<NumberError> for DecimalError {
+    ghost from_gives = { λ why error. error ≡ decimal_error_of why };
+
     fn from(why: NumberError) -> DecimalError {
         match why {
             NumberError::NotANumber => DecimalError::NotADecimal,
@@ -98,7 +112,9 @@ fn is_near(digits: usize, power: i64) -> bool {
 }
 
 // The bits of the float nearest to a decimal without a sign, half to even.
-pub fn bits<F: Float>(word: &[u8]) -> Result<u64, DecimalError> {
+pub fn bits<F: Float>(word: &[u8]) -> Result<u64, DecimalError>
+    ensures { IfOk result (IsBitsOfRead F.FromStr.from_str_gives F.has_bits word.now) }
+{
     let end = word
         .iter()
         .position(|b| !b.is_ascii_digit() && *b != b'.')

@@ -5,7 +5,7 @@ use std::fmt;
 use std::fmt::Write;
 use std::io::Error;
 
-// The most bytes of an error as text. The system's reasons are far shorter.
+// The most bytes of an error as text. The system's reasons are far shorter; what there is no room for is lost.
 const ROOM: usize = 256;
 
 // The system's error for a descriptor that is not open.
@@ -25,7 +25,7 @@ pub struct Reason<'a>(pub &'a Error);
 impl fmt::Display for Reason<'_> {
     fn fmt<W: fmt::Write>(&self, f: &mut fmt::Formatter<W>) -> fmt::Result {
         let mut text = ArrayString::<ROOM>::new();
-        write!(text, "{}", self.0)?;
+        let _ = write!(text, "{}", self.0);
         let all = text.as_str();
         let reason = all
             .split_once(" (os error ")

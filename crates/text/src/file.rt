@@ -1,6 +1,6 @@
 // Files by their names, read to their ends; - is standard input.
 
-ghost use Rattle.std.specs.Prelude.{◌≤◌, IfOk, vec_len};
+ghost use Rattle.std.specs.Prelude.{◌≡◌, ◌≤◌, IfOk, vec_len};
 
 use super::input::InputError;
 use super::{failure, input};
@@ -24,7 +24,9 @@ impl<'a, R: Files + Input + AllocGlobal> Inputs<'a, R> {
     }
 
     // The first bytes of a file, at most so many.
-    pub fn read_start(&mut self, path: &[u8], most: usize) -> io::Result<Vec<u8>> {
+    pub fn read_start(&mut self, path: &[u8], most: usize) -> io::Result<Vec<u8>>
+        ensures bound { IfOk result (λ start. vec_len start ≤ most) }
+    {
         if path == b"-".as_slice() {
             return self.read_standard(most);
         }
@@ -39,7 +41,9 @@ impl<'a, R: Files + Input + AllocGlobal> Inputs<'a, R> {
     }
 
     // The first bytes of standard input, which can't be read twice.
-    fn read_standard(&mut self, most: usize) -> io::Result<Vec<u8>> {
+    fn read_standard(&mut self, most: usize) -> io::Result<Vec<u8>>
+        ensures bound { IfOk result (λ start. vec_len start ≤ most) }
+    {
         if self.is_closed {
             return Err(failure::not_open());
         }
@@ -49,7 +53,9 @@ impl<'a, R: Files + Input + AllocGlobal> Inputs<'a, R> {
 }
 
 // A file's name as text, which the system's calls ask for. One that is no text is that of no file.
-pub fn name_of(path: &[u8]) -> io::Result<&str> {
+pub fn name_of(path: &[u8]) -> io::Result<&str>
+    ensures { IfOk result (λ name. name.now ≡ path.now) }
+{
     str::from_utf8(path).map_err(|_| failure::no_text())
 }
 

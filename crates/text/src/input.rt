@@ -24,10 +24,12 @@ impl From<io::Error> for InputError {
 
 // The first bytes of an input, at most so many. What stands behind them is not read.
 pub fn read_start<S: Read + Drop>(alloc: Global, source: S, most: usize) -> io::Result<Vec<u8>>
+    ensures bound { IfOk result (λ start. vec_len start ≤ most) }
     ensures bytes { IfOk result (λ start. IfSome (S.remaining source) (λ all. start.items ≡ take most all)) }
 {
     let mut start = Vec::new(alloc);
     source.take(most as u64).read_to_end(&mut start)?;
+    start.truncate(most);
     Ok(start)
 }
 

@@ -1,6 +1,6 @@
 // Numbers as people write them: decimal, or hexadecimal behind 0x.
 
-ghost use Rattle.std.specs.Prelude.{◌≡◌, ◌≤◌, ◌^◌, ◌-◌, Err, IfSome, drop, is_some};
+ghost use Rattle.std.specs.Prelude.{◌≡◌, ◌<◌, ◌≤◌, ◌^◌, ◌-◌, Err, IfSome, drop, is_some};
 ghost use Rattle.std.specs.Str.Parse.{IsNumeral, ParsesUpTo, digits_value};
 ghost use Rattle.text.specs.Number.{digits_of, is_prefixed, radix_of};
 
@@ -65,4 +65,17 @@ pub fn parse(word: &[u8]) -> Result<u64, NumberError>
         Some(digits) => of_digits(digits, 16),
         None => of_digits(word, 10),
     }
+}
+
+// A number in either form, which may be at most so large.
+pub fn parse_within(word: &[u8], most: u64) -> Result<u64, NumberError>
+    ensures value { ParsesUpTo most (radix_of word.now) (digits_of word.now) result }
+    ensures not_a_number { result ≡ Err NumberError.NotANumber → ¬ IsNumeral (radix_of word.now) (digits_of word.now) }
+    ensures too_large { result ≡ Err NumberError.TooLarge → most < digits_value (radix_of word.now) (digits_of word.now) }
+{
+    let number = parse(word)?;
+    if most < number {
+        return Err(NumberError::TooLarge);
+    }
+    Ok(number)
 }

@@ -5,6 +5,7 @@
 
 ghost use Rattle.std.specs.Prelude.{◌≡◌, ◌≤◌, ◌<◌, length, max, vec_len};
 ghost use Rattle.std.specs.Io.{StartsWith};
+ghost use Rattle.text.specs.declared.quote.QuoteError.TheVariants.{OutOfMemory};
 
 use std::alloc::AllocFailed;
 use std::io;
@@ -22,7 +23,7 @@ fn width(first: u8) -> usize
     }
 }
 
-// Whether a character is printed as it is: by its first byte, and where that leaves it open by its second.
+// Whether a character is printed as it is: by its first byte, and where that leaves it open by its second, which past the text's end counts as 0.
 fn is_plain(character: &[u8]) -> bool {
     let first = character.first().copied().unwrap_or(0);
     let second = character.get(1).copied().unwrap_or(0);
@@ -82,6 +83,8 @@ pub enum QuoteError {
 }
 
 impl<T: Drop> From<AllocFailed<T>> for QuoteError {
+    ghost from_gives = { λ _ why. why ≡ OutOfMemory };
+
     fn from(_why: AllocFailed<T>) -> QuoteError {
         QuoteError::OutOfMemory
     }

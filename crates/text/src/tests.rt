@@ -56,6 +56,7 @@ fn tells_a_reading_that_fails(rt: HostRuntime) {
 fn reads_files_and_standard_input_once(rt: HostRuntime) -> Result<(), Fail> {
     let mut inputs = Inputs::new(&rt);
     assert_eq!(rt; inputs.read_whole(b"/dev/null", 0)?.len(), 0);
+    assert_eq!(rt; inputs.read_start(b"/dev/zero", 5)?.len(), 5);
     let _ = inputs.read_start(b"-", 0);
     match inputs.read_start(b"-", 0) {
         Err(why) => assert_eq!(rt; why.raw_os_error(), Some(9)),

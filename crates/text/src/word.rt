@@ -1,7 +1,8 @@
 // The words of a line. Blanks stand between words; a word that would begin with # begins a comment; one that begins with a quotation mark
 // ends with the next that no backslash stands before.
 
-ghost use Rattle.std.specs.Prelude.{◌+◌, ◌<◌, ◌≤◌, IfSome, length};
+ghost use Rattle.std.specs.Prelude.{◌≡◌, ◌+◌, ◌<◌, ◌≤◌, ◌↔◌, All, IfSome, IsNone, length};
+ghost use Rattle.text.specs.Word.{AreAlike, TakesWord};
 ghost use Rattle.std.specs.Iterator.{at_most};
 
 // What is left of a line. A copy can look ahead.
@@ -12,7 +13,9 @@ pub struct Words<'a> {
 
 impl<'a> Words<'a> {
     // All words of a line.
-    pub fn new(line: &'a [u8]) -> Words<'a> {
+    pub fn new(line: &'a [u8]) -> Words<'a>
+        ensures { result.rest.now ≡ line.now }
+    {
         Words { rest: line }
     }
 }
@@ -22,7 +25,7 @@ impl<'a> Iterator for Words<'a> {
 
     ghost remaining = { λ s. at_most (length s.rest.now) };
 
-    ghost next_gives = { λ s r t. IfSome r (λ word. (0 < length word.now) × (length word.now + length t.rest.now ≤ length s.rest.now)) };
+    ghost next_gives = { λ s r t. IfSome r (λ word. TakesWord s.rest.now word.now t.rest.now) };
 
     fn next(&mut self) -> Option<&'a [u8]> {
         let start = self.rest.iter().position(|b| !is_blank(*b))?;
@@ -77,7 +80,9 @@ fn quotation_len(line: &[u8]) -> usize
 }
 
 // What a word names, its letters in either case.
-pub fn named<T: Copy>(names: &[(&str, T)], word: &[u8]) -> Option<T> {
+pub fn named<T: Copy>(names: &[(&str, T)], word: &[u8]) -> Option<T>
+    ensures none { IsNone result ↔ All (λ name. ¬ AreAlike name.0.now word.now) names.now }
+{
     names
         .iter()
         .find(|(name, _)| name.as_bytes().eq_ignore_ascii_case(word))

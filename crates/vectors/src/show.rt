@@ -98,7 +98,7 @@ pub fn message<W: Write>(m: &MessageReading, room: u8, out: &mut W) -> io::Resul
         "client {client} session {session} return {}",
         h.found_code
     )?;
-    let accepted = matches!(r.verdict, Verdict::Accepted);
+    let accepted = r.verdict == Verdict::Accepted;
     let place = |p: Part| {
         if accepted || p.len != 0 {
             Place(p)

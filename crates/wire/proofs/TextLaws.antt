@@ -20,19 +20,6 @@ use Rattle.wire.proofs.ChooseLaws.{and_left, and_right, and_false}
 use Rattle.wire.specs.Choose.{pick, and}
 use Rattle.wire.specs.Text.{following, follows, text_from, text_fits, In, Text, none, alone, two, three, four, string_bytes, text_of, string_fits}
 
--- a byte that is not zero stands alone exactly below 0x80
-pub plain_is : (x : ℕ) → (x ≡ 0 → ⊥) → ltb x 0x80 ≡ eqb (following x) 0
-unfolding following
-plain_is x ne = rw (ne_eqb x 0 ne) (go (ltb x 0x80) (ltb x 0xC2) (ltb x 0xE0) (ltb x 0xF0) (ltb x 0xF5))
-  where
-    go : (a b c d e : Bool) → a ≡ eqb (pick a 0 (pick b 4 (pick c 1 (pick d 2 (pick e 3 4))))) 0
-    go true b c d e = refl
-    go false true c d e = refl
-    go false false true d e = refl
-    go false false false true e = refl
-    go false false false false true = refl
-    go false false false false false = refl
-
 -- too few bytes
 text_short : (k : ℕ) (xs : List ℕ) → length xs < k → text_from k xs ≡ false
 unfolding text_from
@@ -182,10 +169,6 @@ module _ (x : ℕ) where
   unfolding following
   following_alone h = rw (ne_eqb x 0 (λ e. omega arith), lt-ltb x 0x80 (omega arith))
 
-  pub following_early : In 0x80 0xC1 x → following x ≡ 4
-  unfolding following
-  following_early h = rw (ne_eqb x 0 (λ e. omega arith), le-ltb x 0x80 (omega arith), lt-ltb x 0xC2 (omega arith))
-
   pub following_two : In 0xC2 0xDF x → following x ≡ 1
   unfolding following
   following_two h = rw (ne_eqb x 0 (λ e. omega arith), le-ltb x 0x80 (omega arith), le-ltb x 0xC2 (omega arith), lt-ltb x 0xE0 (omega arith))
@@ -205,18 +188,6 @@ module _ (x : ℕ) where
         le-ltb x 0xE0 (omega arith),
         le-ltb x 0xF0 (omega arith),
         lt-ltb x 0xF5 (omega arith),
-      )
-
-  pub following_late : 0xF5 ≤ x → following x ≡ 4
-  unfolding following
-  following_late h =
-      rw (
-        ne_eqb x 0 (λ e. omega arith),
-        le-ltb x 0x80 (omega arith),
-        le-ltb x 0xC2 (omega arith),
-        le-ltb x 0xE0 (omega arith),
-        le-ltb x 0xF0 (omega arith),
-        le-ltb x 0xF5 h,
       )
 
 pub text_fits_lem : {xs : List ℕ} → Text xs → text_fits xs ≡ true

@@ -4,7 +4,7 @@ ghost use Rattle.std.specs.Prelude.{◌≡◌, ◌≤◌, ◌<◌, ◌∷◌, fa
 ghost use Rattle.wire.specs.Text.{following, follows, text_fits, string_fits};
 
 // How many bytes follow a first byte; none: no text has it there.
-#[tactic(auto, using(std::proofs::lemmas::Bool::Decides::nat_tests), unfolding(crate::specs::Text::following, crate::specs::Choose::pick))]
+#[tactic(auto, unfolding(crate::specs::Text::following))]
 pub fn following_of(b: u8) -> Option<usize>
     ensures number { unwrap_or result 4 ≡ following b }
     ensures few { IfSome result (λ n. n < 4) }
@@ -19,7 +19,7 @@ pub fn following_of(b: u8) -> Option<usize>
 }
 
 // Whether a byte is one of those that follow.
-#[tactic(auto, using(std::proofs::lemmas::Bool::Decides::nat_tests), unfolding(crate::specs::Text::follows))]
+#[tactic(auto, unfolding(crate::specs::Text::follows))]
 pub fn follows_on(b: u8) -> bool
     ensures { result ≡ follows b }
 {
@@ -27,15 +27,15 @@ pub fn follows_on(b: u8) -> bool
 }
 
 // Whether a byte is a character by itself; one test, for the bytes that most texts have.
-#[tactic(auto, using(std::proofs::lemmas::Bool::Decides::nat_tests), unfolding(crate::specs::Text::following))]
+#[tactic(auto, unfolding(crate::specs::Text::following))]
 fn is_plain(b: u8) -> bool
     ensures { result ≡ eqb (following b) 0 }
 {
     matches!(b, 0x01..=0x7F)
 }
 
-// What is left behind the plain bytes that a text begins with. They are passed by fours, in a quarter fewer instructions than by `position` over
-// the whole text; where fewer than four are left, those stay.
+// What is left behind the plain bytes that a text begins with; where fewer than four are left, those stay. By fours they take a quarter fewer
+// instructions than by `position` over the whole text.
 fn plain_passed(text: &[u8]) -> &[u8]
     ensures shorter { length result.now ≤ length text.now }
     ensures same { text_fits text.now ≡ text_fits result.now }
@@ -82,7 +82,7 @@ pub fn text_fits(text: &[u8]) -> bool
 }
 
 // Whether bytes are a string's content.
-#[tactic(auto, using(std::proofs::lemmas::Bool::Decides::nat_tests), unfolding(crate::specs::Text::string_fits))]
+#[tactic(auto, unfolding(crate::specs::Text::string_fits))]
 pub fn string_fits(content: &[u8]) -> bool
     ensures { result ≡ string_fits content.now }
 {
