@@ -206,7 +206,8 @@ impl Values {
     }
 }
 
-// The values of a text, for the rows of a sheet.
+// The values of a text, for the rows of a sheet. The lines of a table file go the same way: one function for both would need a closure,
+// and be no shorter.
 pub fn read<'a>(
     alloc: Global,
     text: &'a [u8],

@@ -60,6 +60,18 @@ pub fn word(verdict: Verdict) -> &'static str {
     }
 }
 
+// Whether a verdict is given at a place: a byte of the payload that is read, or a row of what is written.
+pub fn has_place(verdict: Verdict) -> bool {
+    match verdict {
+        Verdict::Accepted | Verdict::Table | Verdict::Room => false,
+        Verdict::Short | Verdict::Length | Verdict::Protocol | Verdict::Service => false,
+        Verdict::Interface | Verdict::Method | Verdict::MessageType | Verdict::Large => false,
+        Verdict::TagCut | Verdict::Wire | Verdict::Twice | Verdict::FieldCut => true,
+        Verdict::Overrun | Verdict::Array | Verdict::Text | Verdict::Missing => true,
+        Verdict::Value | Verdict::Outside | Verdict::Wide | Verdict::Heavy => true,
+    }
+}
+
 // Why a verdict is given, behind a colon, where its word doesn't say enough.
 pub fn why(verdict: Verdict) -> &'static str {
     match verdict {
