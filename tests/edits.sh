@@ -48,7 +48,8 @@ function_at() { # CRATE FILE LINE [GOAL]
             type = trait = $0
             sub(/.* for /, "", type); sub(/^impl */, "", type); sub(/[ <{].*/, "", type)
             if (!sub(/ for .*/, "", trait)) trait = ""
-            sub(/^impl */, "", trait); gsub(/&/, "Ref", trait); gsub(/[^A-Za-z0-9_]/, "", trait)
+            sub(/^impl(<[^>]*>)? */, "", trait); gsub(/[a-z_0-9]+::/, "", trait)
+            gsub(/&/, "Ref", trait); gsub(/[^A-Za-z0-9_]/, "", trait)
             type = "::" type trait
         }
         !/^ *\/\// && match($0, /fn [a-z_0-9]+/) { last = type "::" substr($0, RSTART + 3, RLENGTH - 3); if (NR > at) exit }

@@ -16,15 +16,31 @@ sed -nE 's/^abbrev pub ([A-Z][A-Za-z0-9]*) : Type [01]$/\1/p' crates/*/specs/*.a
 grep -rhE '^pub [a-z0-9_]+ : [A-Z][A-Za-z0-9]*$' crates/*/proofs | sed 's/.* //' > "$room/proved"
 ls crates/*/must-fail | sed -n 's/\.edit$//p' | sort -u > "$room/edits"
 
-# public functions of the libraries, as crate::module::name or crate::module::Type::name
+# public functions of the libraries, as crate::module::name or crate::module::Type::name; beside them, known and not asked for, the types and
+# the functions of traits
 for file in crates/*/src/*.rt; do
     crate=${file#crates/} module=::$(basename "$file" .rt)
     crate=${crate%%/*}
     [ -f "crates/$crate/src/lib.rt" ] || continue
     [ "$module" != ::lib ] || module=''
-    sed -nE 's/^}.*/}/p; s/^impl ([A-Za-z0-9]+) .*/impl \1/p; s/^ *pub (extern "C" )?fn ([a-z_0-9]+).*/fn \2/p' "$file" |
-        awk -v at="$crate$module" '$1 == "}" { type = "" } $1 == "impl" { type = "::" $2 } $1 == "fn" { print at type "::" $2 }'
-done > "$room/functions"
+    awk -v at="$crate$module" '
+        function word(text) { match(text, /[A-Za-z_][A-Za-z0-9_]*/); return substr(text, RSTART, RLENGTH) }
+        /^}/ { type = "" }
+        /^impl/ {
+            type = substr($0, 5)
+            if (type ~ /^</) for (depth = i = 1; depth > 0; ) { c = substr(type, ++i, 1); depth += (c == "<") - (c == ">") }
+            else i = 0
+            type = substr(type, i + 1)
+            sub(/.* for /, "", type)
+            type = "::" word(type)
+        }
+        /^(pub )?trait / { sub(/^(pub )?trait /, ""); type = "::" word($0); print "known " at type; next }
+        /^pub (struct|enum) / { sub(/^pub (struct|enum) /, ""); print "known " at "::" word($0) }
+        /^ *pub (extern "C" )?fn / { sub(/^ *pub (extern "C" )?fn /, ""); print "asked " at type "::" word($0); next }
+        /^ *fn / { sub(/^ *fn /, ""); print "known " at type "::" word($0) }' "$file"
+done > "$room/found"
+sed -n 's/^asked //p' "$room/found" > "$room/functions"
+sed 's/^[a-z]* //' "$room/found" >> "$room/names"
 
 sort -u "$room/names" "$room/edits" "$room/functions" > "$room/known"
 {

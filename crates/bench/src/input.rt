@@ -1,5 +1,5 @@
-// What stands where in the input, for this program alone. Numbers are big-endian. What the value rows are, bench/run holds to the answers of
-// the program in C.
+// What stands where in the input, for this program alone. Numbers are big-endian. What the value rows are, bench/run holds to the answers
+// of the program in C.
 
 ghost use Rattle.std.specs.Prelude.{◌≡◌, ◌≤◌};
 ghost use Rattle.bench.specs.Form.{pair_at, count_in, type_row_at, table_in, expected_in, header_in};

@@ -1,6 +1,7 @@
-// The answers, as the program in C writes them, so that the two can be compared byte for byte. No contract can speak of output. Numbers are
-// printed one by one: bench/run links this program with read and write alone, and with std's formats LLVM copies the rows of each reading that is
-// counted once more, which takes 745 instructions.
+// The answers, as the program in C writes them, so that the two can be compared byte for byte. No contract can speak of output.
+//
+// Numbers are printed one by one by the kit's io: bench/run links this program with read and write alone, so without a heap, and with
+// std's formats over them LLVM copies the rows of each reading that is counted once more, which takes 445 instructions.
 
 use message::rows::Answered;
 use payload::row::{Row, Value};

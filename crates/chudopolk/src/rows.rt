@@ -2,7 +2,6 @@
 
 ghost use Rattle.std.specs.Prelude.{◌≡◌, ◌++◌, ◌+◌, ◌*◌, ◌≤◌, ◌<◌, length, take, drop};
 ghost use Rattle.std.proofs.lemmas.List.Edits.{sets};
-ghost use Rattle.payload.specs.Row.{plain as plain_row};
 ghost use Rattle.chudopolk.specs.Rows.{listed, flat, float32_row, row_at, lent_of, rows_of};
 
 use payload::row::{Row, Value};
@@ -32,7 +31,7 @@ fn numbered(what: u64, number: u64) -> Numbers
     }
 }
 
-// What stands for each value is C's enum chudopolk_what, which `row_of` reads back.
+// What stands for each value is of C's enum chudopolk_what in include/chudopolk.h; the conversion back below reads it.
 impl From<Row> for Numbers {
     ghost use Rattle.chudopolk.specs.Rows.{numbers_of};
 
@@ -67,8 +66,8 @@ fn put_row(out: &mut [u64], at: usize, n: Numbers)
     out[at + 3] = n.len;
 }
 
-// Stores the numbers of the first n rows over the first of the lent ones; those beyond stay. The rows come by value: of a slice of them LLVM copies the
-// whole array once more, which takes some 400 instructions a message.
+// Stores the numbers of the first n rows over the first of the lent ones; those beyond stay. The rows come by value: of a slice of them
+// LLVM copies the whole array once more, which takes 318 instructions a message, and over 1,000 where the table is refused.
 pub fn put_rows(out: &mut [u64], rows: [Row; 64], n: usize)
     requires { (n ≤ 64) × (length rows ≡ 64) × (4 * n ≤ length out.old) }
     ensures { out.new ≡ flat (take n rows) ++ drop (4 * n) out.old }
@@ -76,13 +75,6 @@ pub fn put_rows(out: &mut [u64], rows: [Row; 64], n: usize)
     for i in 0..n {
         put_row(out, NUMBERS * i, Numbers::from(rows[i]));
     }
-}
-
-// A row whose value has no bits beside it.
-fn plain(value: Value) -> Row
-    ensures { result ≡ plain_row value }
-{
-    Row { value, bits: 0 }
 }
 
 // The row of a float32 by its bits, which are too many where they are no float32's.
@@ -104,19 +96,19 @@ impl From<Numbers> for Row {
 
     fn from(n: Numbers) -> Row {
         match n.what {
-            0 => plain(Value::Absent),
-            1 => plain(Value::Unsigned(n.number)),
-            2 => plain(Value::Signed(n.number.cast_signed())),
+            0 => Row::ABSENT,
+            1 => Row::plain(Value::Unsigned(n.number)),
+            2 => Row::plain(Value::Signed(n.number.cast_signed())),
             3 => float32_row(n.number),
             4 => Row {
                 value: Value::Float64(number::float64_of(n.number)),
                 bits: n.number,
             },
-            5 => plain(Value::Bytes {
+            5 => Row::plain(Value::Bytes {
                 place: n.place as usize,
                 len: n.len as usize,
             }),
-            6 => plain(Value::Members),
+            6 => Row::plain(Value::Members),
             _ => float32_row(4294967296),
         }
     }
@@ -148,7 +140,7 @@ pub fn rows_of(values: &[u64]) -> [Row; 64]
     ensures { result ≡ rows_of values.now }
 {
     let n = lent(values.len());
-    let mut rows = [plain(Value::Absent); 64];
+    let mut rows = [Row::ABSENT; 64];
     for i in 0..n {
         rows[i] = row_at(values, i);
     }

@@ -1,5 +1,7 @@
 // The Message Types, named once, and which numbers are one.
 
+#![tactic(auto, unfolding(crate::specs::MessageType::is_one))]
+
 ghost use Rattle.std.specs.Prelude.{◌≡◌};
 ghost use Rattle.message.specs.MessageType.{is_one};
 
@@ -19,7 +21,6 @@ impl MessageType {
     pub const ERROR: MessageType = MessageType(0x81);
 
     // Whether the number is one of the five.
-    #[tactic(auto, unfolding(crate::specs::MessageType::is_one))]
     pub fn is_one(self) -> bool
         ensures { result ≡ is_one self.0 }
     {

@@ -22,8 +22,8 @@ pub struct Answered {
     pub skipped: usize,
 }
 
-// Stores the first n of the rows that were read over the first of the lent ones; the lent rows beyond stay. Row by row, and from an array by
-// value: with copy_from_slice, or from a reference, reading case a takes 3,344 instructions in place of 2,922, for all 64 rows are then moved.
+// Stores the first n of the rows that were read over the first of the lent ones; the lent rows beyond stay. Row by row, and from an array
+// by value: with copy_from_slice, or from a reference, reading case a takes 3,344 instructions and not 2,922: all 64 rows are then moved.
 fn put_rows(out: &mut [Row], rows: [Row; 64], n: usize)
     requires { (n ≤ length out.old) × (n ≤ 64) }
     ensures { out.new ≡ copied n rows out.old }

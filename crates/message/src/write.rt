@@ -30,8 +30,8 @@ fn put_header(out: &mut [u8], h: Header, n: usize)
     number::write_number(out, header::CODE_AT, 1, u64::from(h.code));
 }
 
-// Writes the message of these rows, or says why it is refused. Where the output has no room for a header, the payload's writing is handed its
-// end: there only whether the payload is refused counts.
+// Writes the message of these rows, or says why it is refused. Where the output has no room for a header, the payload's writing is handed
+// its end: there only whether the payload is refused counts.
 fn send(
     h: Header,
     rows: &[Row; 64],

@@ -5,7 +5,7 @@ use Rattle.std.proofs.Math.Option.{Option as Place, none, some}
 use Rattle.wire.specs.Kind.{array}
 use Rattle.payload.specs.declared.table.TypeRow.{TypeRow}
 use Rattle.payload.specs.declared.table.Table.{Table}
-use Rattle.payload.specs.Table.{find, type_rows, width_fits, table_fits}
+use Rattle.payload.specs.Table.{find, type_rows, table_fits}
 
 abbrev pub bit_of : Bool → ℕ
 bit_of true = 1
@@ -56,13 +56,10 @@ pub record FineTable (n : ℕ) (cells : List ℕ) : Type 0 where
   pub few : n ≤ 64
   pub each : (i : ℕ) → i < n → FineRow (row_in (get_or cells i 0))
 
--- what every checked table keeps: fine rows, of which the first has level 1, and a width of 1, 2 or 4
+-- what every checked table keeps: fine rows, and length fields of four bytes at most
 pub record SoundTable (cells : List ℕ) (n width : ℕ) : Type 0 where
   pub fine : FineTable n cells
-  pub some : 0 < n
-  pub first : level_in (get_or cells 0 0) ≡ 1
   pub width_in : width ≤ 4
-  pub width_is : width_fits width ≡ true
 
 -- ---- a search
 

@@ -54,8 +54,8 @@ abbrev pub field_start : FineRows → ℕ → ℕ → List ℕ
 field_start f cell n = number_bytes big 2 (tag_of 0 f.wire (ident_in cell)) ++ number_bytes big f.table.now.width n
 
 -- the content of a string or an array
-abbrev pub content_of : FineRows → ℕ → ℕ → ℕ → List ℕ
-content_of f cell place len =
+abbrev pub run_content : FineRows → ℕ → ℕ → ℕ → List ℕ
+run_content f cell place len =
     pick (eqb (kind_in cell) string) (string_bytes (run_of f.content.now place len)) (run_of f.content.now place len)
 
 -- ---- the outcome

@@ -51,7 +51,7 @@ leaf_in i next bytes (Ok r) = leaf i r next bytes
 leaf_in i next bytes (Err e) = refuse e.verdict e.place
 
 -- This is the row that a content shows whose type is t, or its refusal.
-pub record Shows (p : List ℕ) (t : TypeRow) (c : Span) (r : Result Row Refusal) : Type 0 where
+pub record RowShown (p : List ℕ) (t : TypeRow) (c : Span) (r : Result Row Refusal) : Type 0 where
   pub is : (i next : ℕ) (bytes : List ℕ) → leaf_in i next bytes r ≡ known i t (content c.from (slice c.from c.end p) next bytes)
 
 -- ---- a walker

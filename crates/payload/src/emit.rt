@@ -7,7 +7,7 @@ ghost use Rattle.wire.specs.Text.{string_bytes};
 ghost use Rattle.wire.specs.Part.{run_of};
 ghost use Rattle.payload.specs.Cells.{kind_in, row_in, FineRow};
 ghost use Rattle.payload.specs.Sizes.{content_len, own_len};
-ghost use Rattle.payload.specs.Fine.{cell_at, value_at, number_member, field_start, content_of, bytes_at, piece_at, Holds};
+ghost use Rattle.payload.specs.Fine.{cell_at, value_at, number_member, field_start, run_content, bytes_at, piece_at, Holds};
 
 use super::fine::FineRows;
 use super::row::Value;
@@ -22,7 +22,7 @@ fn put_number(out: &mut [u8], at: usize, cell: u64, num: u64) -> usize
 {
     let kind = table::kind_in(cell);
     let size = kind::size_of(kind);
-    let wire = kind::kind_at(kind).wire as u64;
+    let wire = u64::from(kind::kind_at(kind).wire);
     number::write_number(out, at, 2, tag::tag_of(wire, table::ident_in(cell)));
     number::write_number(out, at + 2, size, num);
     at + (2 + size)
@@ -65,7 +65,7 @@ fn put_bytes(
         × (at + (fine.now.table.now.width + 2 + content_len (kind_in cell) (Value.Bytes place len) 0) ≤ length out.old) }
     ensures next { result ≡ at + (fine.now.table.now.width + 2 + content_len (kind_in cell) (Value.Bytes place len) 0) }
     ensures output { out.new ≡ sets out.old at
-        (field_start fine.now cell (content_len (kind_in cell) (Value.Bytes place len) 0) ++ content_of fine.now cell place len) }
+        (field_start fine.now cell (content_len (kind_in cell) (Value.Bytes place len) 0) ++ run_content fine.now cell place len) }
 {
     if table::kind_in(cell) == kind::STRING {
         let start = put_field(out, at, cell, len + 4, fine);

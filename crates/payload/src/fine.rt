@@ -1,7 +1,7 @@
 // Rows that fit their table, as the writer's passes share them.
 
-ghost use Rattle.std.specs.Prelude.{◌≡◌, ◌≤◌, true, length};
-ghost use Rattle.payload.specs.Cells.{table_in};
+ghost use Rattle.std.specs.Prelude.{◌≡◌, ◌≤◌, ◌<◌, true, length, get_or};
+ghost use Rattle.payload.specs.Cells.{level_in, table_in};
 ghost use Rattle.payload.specs.Judging.{judged_of, is_fine};
 ghost use Rattle.payload.specs.Sizes.{Wires};
 
@@ -16,6 +16,8 @@ pub struct FineRows<'a> {
     pub rows: &'a [Row; 64],
     pub content: &'a [u8],
     pub wire: u64,
+    pub ghost some: { 0 < table.now.count },
+    pub ghost first: { level_in (get_or table.now.cells 0 0) ≡ 1 },
     pub ghost wires: { Wires table.now.width wire },
     pub ghost lent: { table.now.count ≤ length rows.now },
     pub ghost fine: { is_fine (judged_of content.now (table_in table.now.count table.now.cells) rows.now) ≡ true },

@@ -6,7 +6,7 @@ ghost use Rattle.wire.specs.Number.{big, number_of};
 ghost use Rattle.wire.specs.Kind.{size_of, string, array, struct};
 ghost use Rattle.payload.specs.Cells.{row_in, kind_in, FineRow};
 ghost use Rattle.payload.specs.Reading.{content_of, body_of};
-ghost use Rattle.payload.specs.Walking.{body_in, Inside, Shows};
+ghost use Rattle.payload.specs.Walking.{body_in, Inside, RowShown};
 
 use super::row::{Row, Value};
 use super::{rows, table};
@@ -82,7 +82,7 @@ fn number_at(bytes: &[u8], at: usize, w: usize) -> u64
 // The row of a string's content: its run covers the text alone, behind the mark and before the terminator.
 fn string_shown(bytes: &[u8], cell: u64, content: Span) -> Result<Row, Refusal>
     requires { (kind_in cell ≡ string) × (content.from ≤ content.end) × (content.end ≤ length bytes.now) }
-    ensures { Shows bytes.now (row_in cell) content result }
+    ensures { RowShown bytes.now (row_in cell) content result }
 {
     let Span { from, end } = content;
     if !text::string_fits(&bytes[from..end]) {
@@ -100,7 +100,7 @@ fn string_shown(bytes: &[u8], cell: u64, content: Span) -> Result<Row, Refusal>
 // The row of an array's content, which is a multiple of the element size.
 fn array_shown(cell: u64, content: Span) -> Result<Row, Refusal>
     requires { FineRow (row_in cell) × (kind_in cell ≡ array) × (content.from ≤ content.end) }
-    ensures { (p : List ℕ) → content.end ≤ length p → Shows p (row_in cell) content result }
+    ensures { (p : List ℕ) → content.end ≤ length p → RowShown p (row_in cell) content result }
 {
     let Span { from, end } = content;
     if (end - from) % kind::size_of(table::elem_in(cell)) != 0 {
@@ -119,7 +119,7 @@ fn array_shown(cell: u64, content: Span) -> Result<Row, Refusal>
 pub fn shown(bytes: &[u8], cell: u64, content: Span) -> Result<Row, Refusal>
     requires { FineRow (row_in cell) × (kind_in cell < struct) × (content.from ≤ content.end) × (content.end ≤ length bytes.now)
         × (kind_in cell < string → content.end ≡ content.from + size_of (kind_in cell)) }
-    ensures { Shows bytes.now (row_in cell) content result }
+    ensures { RowShown bytes.now (row_in cell) content result }
 {
     let kind = table::kind_in(cell);
     match kind {

@@ -46,20 +46,20 @@ impl Reading {
 
 // A level: its number, its rows from `first` to `stop`, and its bytes.
 #[derive(Clone, Copy)]
-pub struct Level {
-    pub number: u64,
-    pub first: usize,
-    pub stop: usize,
-    pub span: Span,
+struct Level {
+    number: u64,
+    first: usize,
+    stop: usize,
+    span: Span,
 }
 
 // A walk over a payload's bytes under a checked table: the rows of the members that were met, and how many unknown ones were skipped.
 #[derive(Clone, Copy)]
-pub struct Walker<'a> {
-    pub bytes: &'a [u8],
-    pub table: &'a CheckedTable,
-    pub rows: [Row; 64],
-    pub skipped: usize,
+struct Walker<'a> {
+    bytes: &'a [u8],
+    table: &'a CheckedTable,
+    rows: [Row; 64],
+    skipped: usize,
 }
 
 impl Walker<'_> {
@@ -81,7 +81,8 @@ impl Walker<'_> {
 
     // Whether a required row of a level was not met.
     fn lacks(&self, level: Level) -> bool
-        requires { Stops self.now.table.now.cells level.first level.stop self.now.table.now.count level.number × (length self.now.rows ≡ 64) }
+        requires { Stops self.now.table.now.cells level.first level.stop self.now.table.now.count level.number
+            × (length self.now.rows ≡ 64) }
         ensures { result ≡ lacks_of level.number (drop level.first (types_in self.now)) (drop level.first (met_in self.now)) }
     {
         for i in level.first..level.stop {

@@ -104,7 +104,7 @@ pub fn level_in(c: u64) -> u64
     c / 512 % 16
 }
 
-// The kind of a cell's row.
+// The kind of a cell's row. It stays a type row's number: sizes and wire types are read by it from one table.
 pub fn kind_in(c: u64) -> usize
     ensures { result ≡ kind_in c }
 {

@@ -39,7 +39,8 @@ fn write_verdict<W: Write>(out: &mut W, answer: &Reading) -> io::Result<()> {
     )
 }
 
-// Writes an answer: behind its first line one for each row of the table, whatever the verdict, with the row's number from 1 on, its Data ID, its value.
+// Writes an answer: behind its first line one for each row of the table, whatever the verdict, with the row's number from 1 on, its Data ID and
+// its value.
 pub fn write_answer<W: Write>(out: &mut W, answer: &Reading, table: &Table) -> io::Result<()> {
     write_verdict(out, answer)?;
     let kinds = table.rows.iter().take(table.count);

@@ -21,6 +21,7 @@ impl Arguments {
     pub fn new<E: Env>(rt: &E, alloc: Global) -> Result<Arguments, AllocError> {
         let mut all = Vec::new(alloc);
         for i in 0..usize::MAX {
+            // The runtime fills a buffer and answers a length.
             let mut text = [0u8; MOST];
             match rt.arg(i, &mut text) {
                 Ok(n) => all.push(Some(Vec::from_slice(alloc, &text[..n])?))?,

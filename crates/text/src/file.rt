@@ -8,7 +8,8 @@ use std::io::Input;
 use std::rt::Files;
 use std::{fs, io, str};
 
-// The files of a runtime, and its standard input, which is closed once it has been read.
+// The files of a runtime, and whether its standard input is closed, which it is once it has been read. The reader is the runtime's and is made when
+// it is asked for, so there is none to keep in an Option.
 #[derive(Drop)]
 pub struct Inputs<'a, R> {
     rt: &'a R,

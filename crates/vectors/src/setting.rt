@@ -12,7 +12,7 @@ use wire::id::{ClientId, MethodId, ServiceId, SessionId};
 // The bytes of a value row.
 const RECORD: usize = 26;
 
-// What is set: for reading the table, the lent rows' number and the expectation; for writing header, rows and content. So many rows are lent
+// What is set: for reading the table, the lent rows' number and the expectation; for writing header, rows and content. As many rows are lent
 // for writing as stood in the line, which may be more than the 64 that the library takes.
 #[derive(Drop)]
 pub struct Setting {
@@ -140,10 +140,7 @@ fn row_of(fields: &mut Fields) -> Row {
 
 // The first 64 value rows of a line.
 fn rows_of(fields: &mut Fields) -> [Row; 64] {
-    let mut rows = [Row {
-        value: Value::Absent,
-        bits: 0,
-    }; 64];
+    let mut rows = [Row::ABSENT; 64];
     for row in rows.iter_mut() {
         *row = row_of(fields);
     }

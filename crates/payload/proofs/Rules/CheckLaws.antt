@@ -193,7 +193,16 @@ first_level [] e h = absurd (omega arith)
 first_level (r ∷ rs) e h = (fits_rules r 1 (and_left (row_fits 1 r) (rows_fit (level_most r) rs) e)).1
 
 pub sound : (t : Table) (cells : List ℕ) → Checked t cells true → SoundTable cells t.count t.width
-sound t cells k = record { fine = f.fine; some = f.count_some; first = first; width_in = f.width_in; width_is = tests.width }
+sound t cells k = let f = k.filled refl in record { fine = f.fine; width_in = f.width_in }
+
+-- what the writer needs besides: a first row, which has level 1, and a width of 1, 2 or 4
+pub record Begins (cells : List ℕ) (n width : ℕ) : Type 0 where
+  pub some : 0 < n
+  pub first : level_in (get_or cells 0 0) ≡ 1
+  pub width_is : width_fits width ≡ true
+
+pub begins : (t : Table) (cells : List ℕ) → Checked t cells true → Begins cells t.count t.width
+begins t cells k = record { some = f.count_some; first = first; width_is = tests.width }
   where
     f : Filled t cells
     f = k.filled refl

@@ -25,7 +25,7 @@ use Rattle.payload.specs.Table.{find, row_at}
 use Rattle.payload.specs.Cells.{row_in, kind_in, found_at, Stops}
 use Rattle.payload.specs.Row.{is_absent, absent_row, members_row}
 use Rattle.payload.specs.Reading.{content, Step, refuse, unknown, known, met, step_of, behind, member_by}
-use Rattle.payload.specs.Walking.{body_in, Inside, Shows, types_in, met_in, Ready, Onto, inner_of, walk_in, move_by, body_at, known_step, KnownRead, MemberRead, LevelRead}
+use Rattle.payload.specs.Walking.{body_in, Inside, RowShown, types_in, met_in, Ready, Onto, inner_of, walk_in, move_by, body_at, known_step, KnownRead, MemberRead, LevelRead}
 use Rattle.payload.proofs.Rules.CellLaws.{row_at_lem}
 use Rattle.payload.proofs.Walking.LevelLaws.{onto_self, onto_next}
 
@@ -87,7 +87,7 @@ module _ (w : Walker) (at : ℕ) (f : Level) (ready : Ready w at f) where
 
           -- ---- a leaf
 
-          module _ (r : Result Row Refusal) (sh : Shows w.bytes.now (row_in cell) c r) where
+          module _ (r : Result Row Refusal) (sh : RowShown w.bytes.now (row_in cell) c r) where
             pub known_unshown : (e : Refusal) → r ≡ Err e → KnownRead w i wire at f (Err e) w
             unfolding member_by
             known_unshown e z =

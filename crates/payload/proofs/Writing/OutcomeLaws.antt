@@ -23,6 +23,7 @@ use Rattle.payload.specs.Tree.{Members, bytes_of}
 use Rattle.payload.specs.Writing.{run_wire, parts_of, nested, some_wide, Outcome, refused, done, sized_of, if_fine, tree_of, outcome_of}
 use Rattle.payload.specs.Sizes.{Wires, fitted_of}
 use Rattle.payload.proofs.Joined.{clash}
+use Rattle.payload.proofs.Rules.CheckLaws.{Begins, begins}
 
 -- ---- 33, then 2 for the output
 
@@ -84,6 +85,9 @@ table_refused t (Some g) e m = absurd (cc)
 pub table_checked : (t : Table) (o : Option CheckedTable) (g : CheckedTable) → o ≡ Some g
     → MatchOption o (table_fits t ≡ false) (λ g. (g.count ≡ t.count) × (g.width ≡ t.width) × Checked t g.cells true) → CheckedOf t g
 table_checked t o g e m = let q = rw e at m in record { count_is = q.0; width_is = q.1; checked = q.2 }
+
+pub checked_begins : (t : Table) (g : CheckedTable) → CheckedOf t g → Begins g.cells g.count g.width
+checked_begins t g k = rw (k.count_is, k.width_is) (begins t g.cells k.checked)
 
 module _ (rows : List Row) (room : ℕ) (t : Table) (buf : List ℕ) (space : ℕ) where
   pub outcome_table : table_fits t ≡ false → outcome_of rows room t buf space ≡ refused NoTable

@@ -19,7 +19,7 @@ use Rattle.payload.specs.Cells.{level_in, kind_in, row_in}
 use Rattle.payload.specs.Writing.{leaf, put_of}
 use Rattle.payload.specs.Parts.{under}
 use Rattle.payload.specs.Sizes.{content_len, own_len}
-use Rattle.payload.specs.Fine.{cell_at, value_at, bytes_at, piece_at, held_at, number_member, field_start, content_of}
+use Rattle.payload.specs.Fine.{cell_at, value_at, bytes_at, piece_at, held_at, number_member, field_start, run_content}
 use Rattle.payload.proofs.Writing.FineLaws.{Fitting, parts_end, parts_more, row_at, fits_at}
 use Rattle.payload.proofs.Writing.SizeLaws.{length_run, run_kind, length_content, tag_number, tag_field, number_piece, run_piece, branch_piece}
 use Rattle.payload.proofs.Writing.MeasureLaws.{piece_length}
@@ -83,14 +83,14 @@ module _ (f : FineRows) (i : ℕ) (h : i < f.table.now.count) (u : Value) (e : (
       rw (e, p, q, t)
 
 pub bytes_stored : (f : FineRows) (i : ℕ) (h : i < f.table.now.count) (place len : ℕ) → (value_at f i).value ≡ Bytes place len → (n : ℕ)
-    → field_start f (cell_at f i) (content_len (kind_in (cell_at f i)) (Bytes place len) 0) ++ content_of f (cell_at f i) place len ≡ piece_at f i n
+    → field_start f (cell_at f i) (content_len (kind_in (cell_at f i)) (Bytes place len) 0) ++ run_content f (cell_at f i) place len ≡ piece_at f i n
 unfolding put_of
 bytes_stored f i h place len e n =
     let r = row_at f i h in
     let k = fits_now f i h (Bytes place len) e in
     let b = run_kind f.content.now (row_in (cell_at f i)) place len k.fits in
     let t = tag_field f.table.now.width f.wire f.wires (row_in (cell_at f i)) r b in
-    let c = content_of f (cell_at f i) place len in
+    let c = run_content f (cell_at f i) place len in
     let l = length_content f.content.now (row_in (cell_at f i)) place len (ltb-false (length f.content.now) (place + len) k.inside) in
     let q = run_piece f.table.now.width f.wire f.wires (row_in (cell_at f i)) r c n b in
     rw (e, q, t, l, append_assoc)

@@ -25,17 +25,17 @@ use Rattle.payload.proofs.Writing.OutcomeLaws.{fitted_heavy, fitted_room, fitted
 module _ (f : FineRows) where
   -- the first row has level 1, so that the members one after the other are the tree's
   heads : parts_at f 0 ≡ part_of f.wire f.content.now (row_in (cell_at f 0)) (value_at f 0) ∷ parts_at f 1
-  heads = parts_more f 0 f.table.now.sound.some
+  heads = parts_more f 0 f.some
 
   shaped : Shaped (part_of f.wire f.content.now (row_in (cell_at f 0)) (value_at f 0) ∷ parts_at f 1)
   unfolding judged_of
   shaped = rw heads at (judged_shaped f.content.now f.wire 1 (table_in f.table.now.count f.table.now.cells) f.rows.now (judged_fine f))
 
   tree_bytes : bytes_at f 0 ≡ bytes_of f.table.now.width (nested 1 (parts_at f 0))
-  tree_bytes = rw heads (flat_bytes f.table.now.width _ _ f.table.now.sound.first shaped)
+  tree_bytes = rw heads (flat_bytes f.table.now.width _ _ f.first shaped)
 
   tree_wide : wide_under f.table.now.width 1 (parts_at f 0) ≡ some_wide f.table.now.width (nested 1 (parts_at f 0))
-  tree_wide = rw heads (flat_wide f.table.now.width _ _ f.table.now.sound.first shaped)
+  tree_wide = rw heads (flat_wide f.table.now.width _ _ f.first shaped)
 
   outcome_wide : (space : ℕ) → wide_under f.table.now.width 1 (parts_at f 0) ≡ true → fine_outcome f space ≡ refused Wide
   outcome_wide space e = sized_wide f.table.now.width (nested 1 (parts_at f 0)) space (sym tree_wide ∙ e)

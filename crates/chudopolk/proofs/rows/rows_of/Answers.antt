@@ -1,4 +1,4 @@
-use mathlib.Core.Path.{◌≡◌, ap, ◌∙◌}
+use mathlib.Core.Path.{◌≡◌, refl, ap, ◌∙◌}
 use Prim.Native.Nat.{ℕ}
 use native.Mathlib.Omega.{arith}
 use Rattle.chudopolk.specs.Rows.{rows_up_to}
@@ -8,7 +8,7 @@ use Rattle.chudopolk.proofs.rows.rows_of.Goals as goal
 pub loop-i-init : goal.loop-i-init
 loop-i-init c =
     let within = lent_within _ _ c.lent-n.ensures in
-    record { few = within.0; held = within.1; made = rows_up_to_none _ _ c.plain-rows.ensures }
+    record { few = within.0; held = within.1; made = rows_up_to_none _ _ refl }
 
 pub loop-i-preserved : goal.loop-i-preserved
 loop-i-preserved c =

@@ -2,7 +2,8 @@
 use native.Mathlib.Omega.{arith}
 use Rattle.chudopolk.proofs.TableLaws.{taken_many, taken_short, taken_mark, taken_all}
 use Rattle.chudopolk.proofs.table.taken.Goals as goal
-use Rattle.chudopolk.proofs.table.taken.Goals.{else-form-le64-via-then-form-le64+then-form-len+else-form-le1, else-form-le64-via-then-form-le64+else-form-len, else-form-le64-via-else-form-le64}
+use Rattle.chudopolk.proofs.table.taken.Goals.{else-form-le64-via-then-form-le64+then-form-len+else-form-le1}
+use Rattle.chudopolk.proofs.table.taken.Goals.{else-form-le64-via-then-form-le64+else-form-len, else-form-le64-via-else-form-le64}
 
 pub returns-then-form-le1 : goal.returns-then-form-le1
 returns-then-form-le1 c = taken_all _ _ c.if-form-le64.true c.if-form-len.true c.if-form-le1.true

@@ -2,7 +2,7 @@
 use Rattle.std.proofs.Common.{length, refl, sym, ap, ◌∙◌, arith}
 use Rattle.std.proofs.lemmas.Result.{err_from_is_err_and}
 use Rattle.payload.specs.Writing.{result_is, output_is}
-use Rattle.payload.proofs.Writing.OutcomeLaws.{judging_err, judging_ok, fine_passes, table_refused, table_checked, outcome_table, checked_rows, outcome_checked, width_wires}
+use Rattle.payload.proofs.Writing.OutcomeLaws.{judging_err, judging_ok, fine_passes, table_refused, table_checked, checked_begins, outcome_table, checked_rows, outcome_checked, width_wires}
 use Rattle.payload.proofs.write.write_rows.Goals as goal
 
 pub returns-in_err-table-clause-answer : goal.returns-in_err-table-clause-answer
@@ -61,9 +61,13 @@ returns-in_err-judge_rows-clause-output c =
 
 pub invariant_of-fine : goal.invariant_of-fine
 invariant_of-fine c =
+    let t = c.args.t.now in
     let g = c.in_ok-table.table in
+    let b = checked_begins t g (table_checked t c.of.result g c.in_ok-table.ensures.ok_part c.of.ensures) in
     record {
-      wires = rw c.run_wire-wire.ensures (width_wires g.width c.args.t.now.fixed g.sound.width_is);
+      some = b.some;
+      first = b.first;
+      wires = rw c.run_wire-wire.ensures (width_wires g.width t.fixed b.width_is);
       lent = omega arith;
       fine = judging_ok _ _ c.in_ok-judge_rows.ensures;
     }

@@ -7,10 +7,10 @@ use Rattle.chudopolk.proofs.ValueLaws.{read_signed, row_absent, row_unsigned, ro
 use Rattle.chudopolk.proofs.rows.RowFromNumbers.from.Goals as goal
 
 pub returns-in-0 : goal.returns-in-0
-returns-in-0 c = c.plain.ensures ∙ row_absent _ _ _ _ c.in-0.is
+returns-in-0 c = row_absent _ _ _ _ c.in-0.is
 
 pub returns-in-1 : goal.returns-in-1
-returns-in-1 c = c.plain-in-1.ensures ∙ row_unsigned _ _ _ _ c.in-1.is
+returns-in-1 c = c.plain.ensures ∙ row_unsigned _ _ _ _ c.in-1.is
 
 pub returns-in-2 : goal.returns-in-2
 returns-in-2 c =
@@ -32,4 +32,5 @@ returns-in-6 c = c.plain-in-6.ensures ∙ row_members _ _ _ _ c.in-6.is
 pub returns-in_default : goal.returns-in_default
 returns-in_default c =
     c.float32_row-in_default.ensures
-    ∙ row_odd _ _ _ _ (λ h. omega arith) (λ h. omega arith) (λ h. omega arith) (λ h. omega arith) (λ h. omega arith) (λ h. omega arith) (λ h. omega arith)
+    ∙ row_odd _ _ _ _
+    (λ h. omega arith) (λ h. omega arith) (λ h. omega arith) (λ h. omega arith) (λ h. omega arith) (λ h. omega arith) (λ h. omega arith)
