@@ -286,6 +286,15 @@ temperature -32768' "$w 0000000C 0000 0000 01 01 02 00 1002 8000"
 makes 'text with escapes' 'temperature 0
 note "\"\\\n\r\t\x41 # ä"' "$w 0000001E 0000 0000 01 01 02 00 1002 0000 5007 0F EFBBBF 225C0A0D0941 2023 20C3A4 00"
 
+# An argument of over 4,096 bytes is the name of no file: not even of standard input, where there are values, or a datagram.
+long=$(head -c 4097 /dev/zero | tr '\0' 'x')
+echo 'temperature -125' | desk make t "$long" >out 2>said
+: >lines
+echo ': No such file or directory' >errors
+compare 'the name of a file of values, too long'
+desk show t "$long" <good >out 2>said
+compare 'the name of a datagram, too long'
+
 refuses 'an unknown name' 'heat 1' 'v:1: "heat" is the name of no row, and no field of the header'
 refuses 'no such row' '6 1' 'v:1: row: "6" is over 5'
 refuses 'row 0' '0 1' 'v:1: row 0: rows are counted from 1'

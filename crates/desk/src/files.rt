@@ -1,5 +1,7 @@
 // Files by what they have: a table, values, or a datagram as bytes or as hexadecimal digits.
 
+ghost use Rattle.std.specs.Prelude.{◌≡◌, ◌≤◌, IfOk, vec_len};
+
 use super::complaint::{Complaint, Fault};
 use super::hex;
 use std::alloc::AllocFailed;
@@ -21,7 +23,10 @@ pub enum Content {
 
 impl Content {
     // The most bytes that are read.
-    fn most(self) -> usize {
+    fn most(self) -> usize
+        ensures digits { result ≤ 262143 }
+        ensures others { ¬ (self ≡ Content.Digits) → result ≤ 65535 }
+    {
         match self {
             Content::Table | Content::Values | Content::Datagram => 65535,
             Content::Digits => 262143,
@@ -84,7 +89,10 @@ pub fn read<R: Files + io::Input + AllocGlobal>(
     inputs: &mut Inputs<'_, R>,
     path: &[u8],
     content: Content,
-) -> Result<Vec<u8>, Complaint<FileFault>> {
+) -> Result<Vec<u8>, Complaint<FileFault>>
+    ensures digits { IfOk result (λ bytes. vec_len bytes ≤ 262143) }
+    ensures others { ¬ (content ≡ Content.Digits) → IfOk result (λ bytes. vec_len bytes ≤ 65535) }
+{
     inputs.read_whole(path, content.most()).map_err(|error| {
         Complaint::of_file(match error {
             InputError::TooLong => FileFault::Long(content),
@@ -98,7 +106,9 @@ pub fn read_datagram<R: Files + io::Input + AllocGlobal>(
     inputs: &mut Inputs<'_, R>,
     path: &[u8],
     content: Content,
-) -> Result<Vec<u8>, Complaint<FileFault>> {
+) -> Result<Vec<u8>, Complaint<FileFault>>
+    ensures { IfOk result (λ datagram. vec_len datagram ≤ 65535) }
+{
     let bytes = read(inputs, path, content)?;
     match content {
         Content::Digits => {

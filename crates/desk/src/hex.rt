@@ -1,5 +1,7 @@
 // Bytes written as hexadecimal digits.
 
+ghost use Rattle.std.specs.Prelude.{◌≤◌, IfOk, vec_len};
+
 use super::files::{Content, FileFault};
 use std::alloc::Global;
 
@@ -13,20 +15,21 @@ fn is_space(b: u8) -> bool {
 
 // The number of a digit.
 fn digit(b: u8) -> Result<u8, FileFault> {
-    match b {
-        b'0'..=b'9' => Ok(b - b'0'),
-        b'A'..=b'F' => Ok(b - b'A' + 10),
-        b'a'..=b'f' => Ok(b - b'a' + 10),
-        _ => Err(FileFault::NoDigit),
+    match char::from(b).to_digit(16) {
+        Some(number) => Ok(number as u8),
+        None => Err(FileFault::NoDigit),
     }
 }
 
 // The bytes of digits. Two digits are a byte; white space may stand anywhere.
-pub fn bytes_of(alloc: Global, text: &[u8]) -> Result<Vec<u8>, FileFault> {
+pub fn bytes_of(alloc: Global, text: &[u8]) -> Result<Vec<u8>, FileFault>
+    ensures { IfOk result (λ bytes. vec_len bytes ≤ 65535) }
+{
     let mut bytes = Vec::new(alloc);
     let mut high = None;
     for b in text.iter().filter(|b| !is_space(**b)) {
         let low = digit(*b)?;
+        // Asked here too: too many bytes are refused before a later byte that is no digit, and before an odd number of digits.
         if BYTES_MOST < bytes.len() {
             return Err(FileFault::Long(Content::Datagram));
         }

@@ -35,7 +35,8 @@ impl Fault for WordFault<'_> {
     }
 }
 
-// The next word; an empty one where none is left.
+// The next word; an empty one where none is left. No word of a line is empty, and a message quotes a missing one as "": an Option would be
+// unwrapped to that in every place.
 pub fn next_word<'a>(words: &mut Words<'a>) -> &'a [u8] {
     words.next().unwrap_or(&[])
 }
@@ -48,11 +49,18 @@ pub fn ends(mut words: Words<'_>) -> Result<(), WordFault<'_>> {
     }
 }
 
-// The only word that is left; an empty one where none is.
+// The only word that is left; an empty one where none is, as `next_word` has it.
 pub fn last_word(mut words: Words<'_>) -> Result<&[u8], WordFault<'_>> {
     let word = next_word(&mut words);
     ends(words)?;
     Ok(word)
+}
+
+// Whether a word is one of some, its letters in either case.
+pub fn is_one_of(words: &[&str], word: &[u8]) -> bool {
+    words
+        .iter()
+        .any(|other| other.as_bytes().eq_ignore_ascii_case(word))
 }
 
 // A word as a number up to a most one. A message names the number.
@@ -62,9 +70,9 @@ pub fn number<'a>(name: &'static str, word: &'a [u8], most: u64) -> Result<u64, 
     if word.is_empty() {
         return Err(WordFault::NumberMissing(name));
     }
-    match number::parse(word) {
-        Ok(n) if n <= most => Ok(n),
-        Ok(_) | Err(NumberError::TooLarge) => Err(WordFault::Over(name, word, most)),
+    match number::parse_within(word, most) {
+        Ok(n) => Ok(n),
+        Err(NumberError::TooLarge) => Err(WordFault::Over(name, word, most)),
         Err(NumberError::NotANumber) => Err(WordFault::NoNumber(name, word)),
     }
 }

@@ -30,7 +30,6 @@ mod values;
 mod verdict_word;
 
 use program::Program;
-use std::io::Write;
 use text::argument::Arguments;
 
 // Runs the program over the three streams.

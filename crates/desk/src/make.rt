@@ -88,7 +88,7 @@ fn text_fits(kind: Kind, value: Value, content: &[u8]) -> bool {
 
 // A row's value keeps its rules, where the levels up to `opened` are present.
 fn row_fits(named: &NamedRow<'_>, row: Row, opened: u8, content: &[u8]) -> Result<(), Rule> {
-    let is_absent = matches!(row.value, Value::Absent);
+    let is_absent = row.is_absent();
     if opened < named.level {
         return if is_absent { Ok(()) } else { Err(Rule::Inside) };
     }
@@ -106,10 +106,10 @@ fn opened_by(named: &NamedRow<'_>, row: Row, opened: u8) -> u8 {
     if opened < named.level {
         return opened;
     }
-    match row.value {
-        Value::Absent => named.level,
-        _ => named.deepest(),
+    if row.is_absent() {
+        return named.level;
     }
+    named.deepest()
 }
 
 // Every row's value keeps its rules.

@@ -19,7 +19,8 @@ pub enum Number {
 }
 
 impl Number {
-    // The number of big-endian bytes, which are as many as the kind has.
+    // The number of big-endian bytes, which are as many as the kind has. wire's `read_number` asks that they be so many, which
+    // no clause says of the last of `chunks`.
     pub fn of_bytes(bytes: &[u8], kind: Scalar) -> Number {
         let bits = bytes.iter().fold(0u64, |high, b| high << 8 | u64::from(*b));
         match kind.form() {
@@ -32,15 +33,9 @@ impl Number {
     // The number as a row of its own.
     pub fn row(self) -> Row {
         match self {
-            Number::Unsigned(n) => Row {
-                value: Value::Unsigned(n),
-                bits: 0,
-            },
-            Number::Signed(z) => Row {
-                value: Value::Signed(z),
-                bits: 0,
-            },
-            Number::Float(Float { precision, bits }) => float_row(precision, bits),
+            Number::Unsigned(n) => Row::plain(Value::Unsigned(n)),
+            Number::Signed(z) => Row::plain(Value::Signed(z)),
+            Number::Float(float) => float_row(float),
         }
     }
 
@@ -66,15 +61,17 @@ impl fmt::Display for Number {
 }
 
 // A float's row.
-fn float_row(precision: Precision, bits: u64) -> Row {
-    let value = match precision {
+fn float_row(float: Float) -> Row {
+    let bits = float.bits;
+    let value = match float.precision {
         Precision::Single => Value::Float32(wire_number::float32_of(float::low_half(bits))),
         Precision::Double => Value::Float64(wire_number::float64_of(bits)),
     };
     Row { value, bits }
 }
 
-// The number of a signed kind with this two's complement, where `least` is the kind's least.
+// The number of a signed kind with this two's complement, where `least` is the kind's least. wire's `signed_of` asks that the bits be of
+// the kind's width, which no clause says of a fold over bytes.
 fn signed_of(bits: u64, least: i64) -> i64 {
     let half = least.unsigned_abs();
     if bits < half {

@@ -3,7 +3,7 @@
 use super::kind::{self, Kind, KindWord};
 use super::line;
 use super::row_fault::{KindFault, NameFault, PlaceFault};
-use super::sheet::NamedRow;
+use super::sheet::{self, NamedRow};
 use super::table_fault::TableFault;
 use std::str;
 use text::word::{self, Words};
@@ -64,7 +64,7 @@ fn read_name(word: &[u8]) -> Result<&str, NameFault<'_>> {
     if !is_name(name) {
         return Err(NameFault::Odd(word));
     }
-    if TAKEN.iter().any(|taken| taken.eq_ignore_ascii_case(name)) {
+    if line::is_one_of(&TAKEN, word) {
         return Err(NameFault::Taken(word));
     }
     Ok(name)
@@ -145,10 +145,7 @@ pub fn read<'a>(
     }
     let row = read_row(before.len(), line, words)?;
     place_fits(&row, before)?;
-    match before
-        .iter()
-        .find(|other| other.name.eq_ignore_ascii_case(row.name))
-    {
+    match sheet::find(before, row.name.as_bytes()) {
         Some(other) => Err(TableFault::Twice(row.name.as_bytes(), other.line)),
         None => Ok(row),
     }

@@ -19,7 +19,7 @@ pub enum Setting {
 }
 
 impl Setting {
-    // Every setting, in the order in which a table is looked through for them.
+    // Every setting.
     const ALL: [Setting; 5] = [
         Setting::Service,
         Setting::Method,
@@ -30,10 +30,7 @@ impl Setting {
 
     // The setting that a word names, its letters in either case.
     pub fn of_word(word: &[u8]) -> Option<Setting> {
-        Setting::ALL.iter().copied().find(|setting| setting
-            .name()
-            .as_bytes()
-            .eq_ignore_ascii_case(word))
+        word::named(&Setting::ALL.map(|setting| (setting.name(), setting)), word)
     }
 
     // The setting's name.

@@ -38,6 +38,13 @@ impl NamedRow<'_> {
     }
 }
 
+// The row among some that has a name, its letters in either case. A row has its name in itself, where `word::named` takes pairs.
+pub fn find<'a>(rows: &[NamedRow<'a>], name: &[u8]) -> Option<NamedRow<'a>> {
+    rows.iter()
+        .copied()
+        .find(|row| row.name.as_bytes().eq_ignore_ascii_case(name))
+}
+
 // What a table file says.
 #[derive(Drop)]
 pub struct Sheet<'a> {
@@ -68,12 +75,9 @@ impl<'a> Sheet<'a> {
         }
     }
 
-    // The row that has a name, its letters in either case.
+    // The row that has a name.
     pub fn find(&self, name: &[u8]) -> Option<NamedRow<'a>> {
-        self.rows
-            .iter()
-            .copied()
-            .find(|row| row.name.as_bytes().eq_ignore_ascii_case(name))
+        find(&self.rows, name)
     }
 
     // The row of a number, counted from 1.

@@ -10,7 +10,7 @@ use std::io::Write;
 use text::say::OrNone;
 use wire::verdict::Verdict;
 
-// The first line: verdict, return code, place and count of skipped members, and the verdict in words. From 20 on a verdict has a place.
+// The first line: verdict, return code, place and count of skipped members, and the verdict in words, with its place where it has one.
 fn write_verdict<W: Write>(out: &mut W, reading: &Reading) -> io::Result<()> {
     let verdict = reading.verdict;
     let number = verdict.number();
@@ -21,7 +21,7 @@ fn write_verdict<W: Write>(out: &mut W, reading: &Reading) -> io::Result<()> {
         reading.place, reading.skipped
     )?;
     write!(out, " {}", verdict_word::word(verdict))?;
-    if 20 <= number {
+    if verdict_word::has_place(verdict) {
         write!(out, " at payload byte {}", reading.place)?;
     }
     writeln!(out, "{}", verdict_word::why(verdict))

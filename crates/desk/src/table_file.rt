@@ -161,7 +161,7 @@ fn checked<'a>(sheet: Sheet<'a>) -> Result<Sheet<'a>, TableFault<'a>> {
     Ok(sheet)
 }
 
-// The lines of a text, up to the first that is wrong.
+// The lines of a text, up to the first that is wrong. A generic one for values too would need a closure, and be no shorter.
 fn read_lines<'a>(alloc: Global, text: &'a [u8]) -> Result<Draft<'a>, Complaint<TableFault<'a>>> {
     let mut draft = Draft::new(alloc);
     for (before, words) in text.split(|b| *b == b'\n').enumerate() {

@@ -14,13 +14,6 @@ const CONTENT_MOST: usize = 65536;
 // The words that show puts before a number.
 const LEADS: [&str; 5] = ["unsigned", "signed", "float32", "float64", "bits"];
 
-// Whether a word is one of some, its letters in either case.
-fn is_one_of(words: &[&str], word: &[u8]) -> bool {
-    words
-        .iter()
-        .any(|other| other.as_bytes().eq_ignore_ascii_case(word))
-}
-
 // The number of a kind, behind a word that show may have put before it. Behind a float's value may stand its bits, which then decide.
 fn read_number<'a>(kind: Scalar, words: Words<'a>) -> Result<Row, ValueFault<'a>> {
     let mut words = without_lead(words);
@@ -40,7 +33,7 @@ fn read_number<'a>(kind: Scalar, words: Words<'a>) -> Result<Row, ValueFault<'a>
 // The words without one that show puts before a number.
 fn without_lead(words: Words<'_>) -> Words<'_> {
     let mut behind = words;
-    if is_one_of(&LEADS, line::next_word(&mut behind)) {
+    if line::is_one_of(&LEADS, line::next_word(&mut behind)) {
         return behind;
     }
     words
@@ -59,13 +52,10 @@ fn without_place(words: Words<'_>) -> Words<'_> {
 
 // The row of the content from a place on.
 fn run(place: usize, content: &[u8]) -> Row {
-    Row {
-        value: Value::Bytes {
-            place,
-            len: content.len().saturating_sub(place),
-        },
-        bits: 0,
-    }
+    Row::plain(Value::Bytes {
+        place,
+        len: content.len().saturating_sub(place),
+    })
 }
 
 // What is wrong with a quotation.
@@ -111,20 +101,11 @@ fn read_array<'a>(
 // A present struct.
 fn read_struct(words: Words<'_>) -> Result<Row, ValueFault<'_>> {
     let word = line::last_word(words)?;
-    if !is_one_of(&["members", "present"], word) {
+    if !line::is_one_of(&["members", "present"], word) {
         return Err(ValueFault::Content(ContentFault::NoStruct(word)));
     }
-    Ok(Row {
-        value: Value::Members,
-        bits: 0,
-    })
+    Ok(Row::plain(Value::Members))
 }
-
-// An absent row.
-pub const ABSENT: Row = Row {
-    value: Value::Absent,
-    bits: 0,
-};
 
 // The value of a row of a kind. Texts and arrays go behind the content.
 pub fn read<'a>(
@@ -135,7 +116,7 @@ pub fn read<'a>(
     let mut behind = words;
     if line::next_word(&mut behind).eq_ignore_ascii_case(b"absent") {
         line::ends(behind)?;
-        return Ok(ABSENT);
+        return Ok(Row::ABSENT);
     }
     match kind {
         Kind::Scalar(scalar) => read_number(scalar, words),

@@ -125,9 +125,9 @@ impl Values {
         }
     }
 
-    // The rows of the table. Those that no line gives are absent.
+    // The rows of the table, in the form that the library takes. Those that no line gives are absent.
     pub fn rows(&self) -> [Row; 64] {
-        let mut rows = [value::ABSENT; 64];
+        let mut rows = [Row::ABSENT; 64];
         for given in &self.given {
             if let Some(row) = rows.get_mut(given.index) {
                 *row = given.row;
@@ -206,7 +206,8 @@ impl Values {
     }
 }
 
-// The values of a text, for the rows of a sheet.
+// The values of a text, for the rows of a sheet. The lines of a table file go the same way: one function for both would need a closure,
+// and be no shorter.
 pub fn read<'a>(
     alloc: Global,
     text: &'a [u8],

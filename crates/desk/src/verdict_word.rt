@@ -1,6 +1,5 @@
 // The verdicts in the scope paper's words.
 
-use std::fmt;
 use wire::verdict::Verdict;
 
 // The verdicts in the order of their numbers, and how many there are.
@@ -58,6 +57,18 @@ pub fn word(verdict: Verdict) -> &'static str {
         Verdict::Outside => "outside",
         Verdict::Wide => "wide",
         Verdict::Heavy => "heavy",
+    }
+}
+
+// Whether a verdict is given at a place: a byte of the payload that is read, or a row of what is written.
+pub fn has_place(verdict: Verdict) -> bool {
+    match verdict {
+        Verdict::Accepted | Verdict::Table | Verdict::Room => false,
+        Verdict::Short | Verdict::Length | Verdict::Protocol | Verdict::Service => false,
+        Verdict::Interface | Verdict::Method | Verdict::MessageType | Verdict::Large => false,
+        Verdict::TagCut | Verdict::Wire | Verdict::Twice | Verdict::FieldCut => true,
+        Verdict::Overrun | Verdict::Array | Verdict::Text | Verdict::Missing => true,
+        Verdict::Value | Verdict::Outside | Verdict::Wide | Verdict::Heavy => true,
     }
 }
 
