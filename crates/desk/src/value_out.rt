@@ -1,4 +1,6 @@
 // What a row holds, as show prints it: like showw's, and behind a run of bytes the text or the elements.
+// showw and vectors print rows by themselves: the lines of the three differ in floats, in runs and in what stands behind a verdict, and one
+// function for them would be in a crate of its own above payload and text.
 
 use super::float::{Bits, Float, Precision};
 use super::kind::{Kind, Scalar};
