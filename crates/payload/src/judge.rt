@@ -1,8 +1,9 @@
 // Verdicts 31 and 30, row by row.
 
-ghost use Rattle.std.specs.Prelude.{◌≡◌, ℕ, ◌+◌, ◌-◌, ◌*◌, ◌^◌, ◌≤◌, ◌<◌, length, false, ltb};
+ghost use Rattle.std.specs.Prelude.{◌≡◌, ◌+◌, ◌-◌, ◌*◌, ◌^◌, ◌≤◌, ◌<◌, length, false, ltb};
 ghost use Rattle.payload.specs.Cells.{row_in, table_in, FineRow};
-ghost use Rattle.payload.specs.Judging.{outside, unsigned_fits, signed_fits, float_fits, run_fits, value_fits, row_fine, is_members, up_after, flip_of, judged_of, judging_is};
+ghost use Rattle.payload.specs.Judging.{outside, unsigned_fits, signed_fits, float_fits, run_fits, value_fits, row_fine};
+ghost use Rattle.payload.specs.Judging.{is_members, up_after, flip_of, judged_of, judging_is};
 
 use super::row::{Row, Value};
 use super::table;

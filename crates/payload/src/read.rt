@@ -1,8 +1,7 @@
 // Reading a payload. A walker goes over the bytes by places, level by level, and keeps the row of each member that it meets.
 
-ghost use Rattle.std.specs.Prelude.{◌≡◌, ℕ, ◌+◌, ◌≤◌, ◌<◌, length, drop, take};
+ghost use Rattle.std.specs.Prelude.{◌≡◌, ◌+◌, ◌≤◌, ◌<◌, length, drop};
 ghost use Rattle.wire.specs.Kind.{struct};
-ghost use Rattle.payload.specs.Table.{row_at};
 ghost use Rattle.payload.specs.Cells.{table_in, Stops};
 ghost use Rattle.payload.specs.Reading.{cleared, checked_of, reading_of};
 ghost use Rattle.payload.specs.Reading.{lacks as lacks_of};
@@ -19,7 +18,7 @@ use wire::{kind, number, tag};
 pub const PAYLOAD_MOST: usize = 1400;
 
 // The answer to a reading: the verdict, its place, the count of skipped members, how many of the lent rows are set, and those rows. Rows
-// beyond are absent.
+// beyond are absent. No Result: the theorem RefusalClears speaks of the fields on every refusal. An array and a count: there is no heap.
 #[derive(Clone, Copy)]
 pub struct Reading {
     pub verdict: Verdict,
@@ -172,6 +171,7 @@ impl Walker<'_> {
         requires { Ready self.old level.span.from level }
         ensures { LevelRead self.old level.span.from level result self.new }
     {
+        // No index is counted: each member says where it ends.
         let mut at = level.span.from;
         while at < level.span.end {
             at = self.read_member(at, level)?;

@@ -1,7 +1,7 @@
 // Value rows.
 
 ghost use Rattle.std.specs.Prelude.{◌≡◌};
-ghost use Rattle.payload.specs.Row.{plain as plain_row, absent_row, is_absent};
+ghost use Rattle.payload.specs.Row.{plain as plain_row, is_absent};
 
 // What a row shows. A run of bytes is a place and a length.
 #[derive(Clone, Copy)]
@@ -16,6 +16,7 @@ pub enum Value {
 }
 
 // A value row. A float's bits stand beside it; they decide in comparing and writing. All other rows that a reading sets have bits 0.
+// Two fields, as the C interface hands them over: bits wider than their float get the verdict of a wrong value.
 #[derive(Clone, Copy)]
 pub struct Row {
     pub value: Value,

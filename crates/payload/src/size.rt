@@ -2,7 +2,7 @@
 
 ghost use Rattle.std.specs.Prelude.{◌≡◌, ℕ, suc, ◌+◌, ◌≤◌, ◌<◌, length, get_or, ltb, IfOk};
 ghost use Rattle.wire.specs.Choose.{pick};
-ghost use Rattle.payload.specs.Parts.{under, wide_under};
+ghost use Rattle.payload.specs.Parts.{wide_under};
 ghost use Rattle.payload.specs.Sizes.{field_top, content_len, head_len, ShortRun, measured_is};
 ghost use Rattle.payload.specs.Fine.{parts_at, bytes_at, Holds};
 
@@ -66,7 +66,8 @@ fn count_in(sums: &mut [usize; 5], level: u64, own: usize)
 }
 
 // The bytes of the payload, where each content fits its length field; then `held` has what each struct holds. The sums are those of the
-// bytes below each level, as far as the rows in front have passed. For this crate's own writer.
+// bytes below each level, as far as the rows in front have passed. `held` is an array beside the rows, for there is no heap. For this
+// crate's own writer.
 pub fn measure(fine: &FineRows, held: &mut [usize; 64]) -> Result<usize, Verdict>
     requires { length held.old ≡ 64 }
     ensures answer { result ≡ measured_is (wide_under fine.now.table.now.width 1 (parts_at fine.now 0)) (length (bytes_at fine.now 0)) }

@@ -1,13 +1,16 @@
 // The type table, its rules, and its rows as numbers.
 
-ghost use Rattle.std.specs.Prelude.{◌≡◌, ◌≢◌, true, false, ℕ, ◌+◌, ◌*◌, ◌/◌, ◌≤◌, ◌<◌, length, get_or, leb, MatchOption, IfSome, is_some, unwrap_or};
+ghost use Rattle.std.specs.Prelude.{◌≡◌, ◌≢◌, true, false, ℕ, ◌+◌, ◌*◌, ◌/◌, ◌≤◌, ◌<◌, length, get_or, leb};
+ghost use Rattle.std.specs.Prelude.{MatchOption, IfSome, is_some, unwrap_or};
 ghost use Rattle.wire.specs.Choose.{and};
 ghost use Rattle.payload.specs.Table.{elem_fits, struct_fits, row_fits, level_most, width_fits, idents_differ, table_fits};
-ghost use Rattle.payload.specs.Cells.{cell_of, ident_in, level_in, kind_in, elem_in, required_in, row_in, table_in, FineRow, FineTable, search_at, Within, Stops, Checked, SoundTable};
+ghost use Rattle.payload.specs.Cells.{cell_of, ident_in, level_in, kind_in, elem_in, required_in, row_in, table_in};
+ghost use Rattle.payload.specs.Cells.{FineRow, FineTable, SoundTable, Checked, search_at, Within, Stops};
 
 use wire::kind;
 
-// A type row: level 1 to 4, Data ID 0 to 4,095, kind 1 to 14, an array's element kind, and whether the row is required.
+// A type row: level 1 to 4, Data ID 0 to 4,095, kind 1 to 14, an array's element kind, and whether the row is required. Plain numbers and
+// no enums: a row of C may have any, and a wrong one gets the verdict of a wrong table.
 #[derive(Clone, Copy)]
 pub struct TypeRow {
     pub level: u8,
@@ -18,7 +21,7 @@ pub struct TypeRow {
 }
 
 // A type table: the first `count` of its rows, depth first; the width of its length fields; and whether the writer uses the static wire
-// type 4 or tells the width in the tag.
+// type 4 or tells the width in the tag. An array and a count, for there is no heap; a wrong count gets the verdict of a wrong table.
 #[derive(Clone, Copy)]
 pub struct Table {
     pub rows: [TypeRow; 64],
@@ -28,7 +31,7 @@ pub struct Table {
 }
 
 // A checked type table: its rows as cells, one number each, how many rows it has, and the width of its length fields. A value of this type
-// keeps the table's rules, so that readers and writers that are handed one need not ask.
+// keeps the table's rules, so that readers and writers that are handed one need not ask. An array and a count, for there is no heap.
 #[derive(Clone, Copy)]
 pub struct CheckedTable {
     pub cells: [u64; 64],
@@ -213,6 +216,7 @@ fn spread(cells: &[u64]) -> bool
     requires { FineTable (length cells.now) cells.now }
     ensures { result ≡ true → idents_differ (table_in (length cells.now) cells.now) ≡ true }
 {
+    // Arrays by place in fixed memory, and no set or map: there is no heap.
     let mut marks = [0u8; 320];
     let mut owners = [1u8; 6];
     for (i, cell) in cells.iter().enumerate() {
@@ -251,6 +255,7 @@ fn rises(before: bool, last: u64, ident: u64) -> bool
 }
 
 // Whether a table keeps its rules, with its rows' cells. Data IDs that rise in each struct differ; only others are compared one by one.
+// The cells are filled where the caller has them: an Option of them would be one more copy of an array for each datagram.
 fn checked(t: &Table, cells: &mut [u64; 64]) -> bool
     requires { length cells.old ≡ 64 }
     ensures { Checked t.now cells.new result }
@@ -265,6 +270,7 @@ fn checked(t: &Table, cells: &mut [u64; 64]) -> bool
     if !width_fits(t.width) {
         return false;
     }
+    // One place for each level in fixed memory: there is no heap.
     let mut lasts = [0u64; 6];
     let mut rising = true;
     let mut most: u8 = 1;

@@ -4,7 +4,8 @@
 // tag and its length field, and its members follow as the rows do. Nothing is written before all is settled.
 
 ghost use Rattle.std.specs.Prelude.{◌≡◌, length};
-ghost use Rattle.payload.specs.Writing.{run_wire, output_is, outcome_of, result_is, written_is, writing_of, output_of};
+ghost use Rattle.payload.specs.Writing.{run_wire, outcome_of, result_is, output_is};
+ghost use Rattle.payload.specs.Writing.{written_is, writing_of, output_of};
 ghost use Rattle.payload.specs.Fine.{fine_outcome};
 
 use super::fine::FineRows;
@@ -13,7 +14,8 @@ use super::table::{CheckedTable, Table};
 use super::{emit, judge, read, size};
 use wire::verdict::Verdict;
 
-// The answer to a writing: the verdict, and the payload's length, 0 on refusal.
+// The answer to a writing: the verdict, and the payload's length, 0 on refusal. No Result: `writing_of` settles both fields on every
+// verdict.
 #[derive(Clone, Copy)]
 pub struct Written {
     pub verdict: Verdict,

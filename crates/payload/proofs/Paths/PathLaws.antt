@@ -66,10 +66,6 @@ module _ (tag : ℕ) (s : Bool) (c : List ℕ) (inner after : Members) (x : ℕ)
   unfolding at_path
   at_other path e = rw e
 
-  pub has_other : eqb (ident_of tag) x ≡ false → has x (mem tag s c inner after) ≡ has x after
-  unfolding has
-  has_other e = rw e
-
   -- of a struct, what the path finds inside; of a leaf, nothing
   pub at_own : (path : List ℕ) → eqb (ident_of tag) x ≡ true
       → at_path (mem tag s c inner after) (x ∷ path) ≡ pick s (at_end path branch (at_path inner path)) (at_end path (leaf c) nothing)

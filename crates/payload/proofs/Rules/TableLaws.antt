@@ -187,10 +187,6 @@ module _ (types : List TypeRow) (l first x : ℕ) where
       let z : first + (i - first) ≡ i = omega (arith, f.after) in
       here_some l x (drop first types) (i - first) (into (i - first) (rw z f)) e
 
-  -- Where no row has it, nothing is found.
-  pub row_none : ((i : ℕ) → RowOf types l first x i → ⊥) → find l x (drop first types) ≡ none
-  row_none h = none_here l x (drop first types) (λ k f. h (first + k) (out k f))
-
   module _ (u : idents_differ types ≡ true) where
     not_less : (i j : ℕ) → RowOf types l first x i → RowOf types l first x j → i < j → ⊥
     not_less i j f g h =

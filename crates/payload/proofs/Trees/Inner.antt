@@ -47,27 +47,14 @@ use Rattle.payload.specs.Reading.{
   end_of,
   walk,
 }
-use Rattle.payload.specs.Tree.{member_bytes}
-use Rattle.payload.specs.Formed.{row_for, content_at, Framed}
+use Rattle.payload.specs.Formed.{content_at}
 use Rattle.payload.specs.Bounds.{Entered}
 use Rattle.payload.specs.Moved.{move_row, AbsentAlike, Shifted, both_kept, both_set, Alike, alike_refused, alike_walked}
 use Rattle.payload.proofs.Trees.Walk.{walk_refuse, walk_finish, walk_skip, walk_leaf, walk_in_lem, walk_out}
-use Rattle.payload.proofs.Trees.Frame.{body_says, step_member, StepIs, is_enter, step_is}
+use Rattle.payload.proofs.Trees.Frame.{body_says, StepIs, is_enter, step_is}
 use Rattle.payload.proofs.Trees.Follow.{met_struct}
 
 -- ---- what stands behind an inner level
-
--- a known struct's member, whatever follows it
-pub step_inner : (width : ℕ) (types : List TypeRow) (l first place tag k : ℕ) (c : List ℕ) (rows : List Row) → Framed width tag c
-    → row_for types l first tag ≡ some k
-    → wire_fits (row_at types (first + k)).kind (wire_of tag) ≡ true
-    → is_absent (get_or rows (first + k) absent_row) ≡ true
-    → eqb (row_at types (first + k)).kind struct ≡ true
-    → (y : List ℕ) → step_of width types l first place (member_bytes width tag c ++ y) rows
-    ≡ enter (first + k) (content_at width tag place) c (content_at width tag place + length c) y
-step_inner width types l first place tag k c rows fr e w ab s y =
-    step_member width types l first place tag c y rows fr
-    ∙ rw e (met_struct types first (wire_of tag) place (content_at width tag place) c (content_at width tag place + length c) y rows k w ab s)
 
 module _ (width : ℕ) (types : List TypeRow) (l first place : ℕ) (bytes : List ℕ) (rows : List Row) where
   entered_by : {i p : ℕ} {c : List ℕ} {next : ℕ} {y : List ℕ} → StepIs width types l first place bytes rows (enter i p c next y)

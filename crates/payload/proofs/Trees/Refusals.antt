@@ -1,6 +1,6 @@
 -- What a reading gives besides its verdict: the place, the count of skipped members, how many rows are set, and the rows.
 -- Assumes nothing.
-use mathlib.Core.Path.{◌≡◌, refl, sym, ◌∙◌}
+use mathlib.Core.Path.{◌≡◌, refl}
 use Prim.Native.Nat.{ℕ, zero, suc, ◌-◌, ◌≤◌}
 use native.Mathlib.Omega.{arith}
 use mathlib.Core.Bool.{Bool, true, false}
@@ -20,7 +20,7 @@ use Rattle.payload.specs.Row.{absent_row}
 use Rattle.payload.specs.Reading.{payload_most, Walked, refused, walked, walked_of, full, untouched, cleared, answer_of, checked_of, reading_of}
 use Rattle.payload.specs.Bounds.{ByWalk, RunIn}
 use Rattle.payload.specs.Outcome.{changes_none, Walks, Outcome, no_table, no_room, too_large, is_refused, is_accepted}
-use Rattle.payload.proofs.Trees.Level.{true_false, and_left, and_right}
+use Rattle.payload.proofs.Trees.Level.{and_left, and_right}
 use Rattle.payload.proofs.Trees.Seen.{absent_at}
 use Rattle.payload.proofs.Trees.Bounds.{absent_run, shown_inside, walked_size, refused_inside}
 
@@ -132,9 +132,6 @@ module _ (p : List ℕ) (t : Table) (room : ℕ) where
   -- only the verdicts 20 to 27 have a place other than 0, and it lies in the payload
   pub reading_place : (ByWalk (reading_of p t room).verdict → ⊥) → (reading_of p t room).place ≡ 0
   reading_place = place_of (reading_outcome p t room)
-
-  pub reading_start : (v : Verdict) → in_range 20 27 (verdict_number v) ≡ false → (reading_of p t room).verdict ≡ v → (reading_of p t room).place ≡ 0
-  reading_start v h e = reading_place (λ b. true_false (sym (rw e at b) ∙ h))
 
   pub reading_inside : (reading_of p t room).place ≤ length p
   reading_inside = inside_of (reading_outcome p t room)

@@ -37,9 +37,6 @@ pub record OnWay (w : Walker) (from : ℕ) (f : Level) (u : Walker) (at : ℕ) :
       → (more : ℕ) × (f.span.end - at < more) × (walk_from turns w from f ≡ walk_from more u at f)
 
 module _ (w : Walker) (from : ℕ) (f : Level) where
-  pub way_none : Ready w from f → OnWay w from f w from
-  way_none h = record { ready = h; onto = onto_self w h.long; up = omega arith; same = λ turns k. (turns, k, refl) }
-
   module _ (u : Walker) (at : ℕ) (way : OnWay w from f u at) where
     module _ (r : Result ℕ Refusal) (v : Walker) (m : MemberRead u at f r v) where
       turn : (turns : ℕ) → f.span.end - at < suc turns

@@ -119,15 +119,6 @@ module _ (w : Walker) (at : ℕ) (f : Level) (ready : Ready w at f) where
             pub known_less : (g.span.end - g.span.from) * 3 + 2 < (f.span.end - at) * 3
             known_less = rw dg (omega arith)
 
-            pub known_ready : Ready (keep w i members_row) g.span.from g
-            known_ready =
-                rw dg (record {
-                  steady = record { low = omega arith; bounded = omega (arith, ready.steady.bounded); stops = stops };
-                  inside = s.1;
-                  few = omega (arith, ready.few);
-                  long = length-set w.rows i members_row ∙ ready.long;
-                })
-
             module _ (r : Result (Unit {0}) Refusal) (v : Walker) (l : LevelRead (keep w i members_row) g.span.from g r v) where
               inner_is : (turns : ℕ) → f.span.end - at ≤ turns
                   → move_by turns w f (known_step w i wire at f) ≡ behind c.end (slice c.end f.span.end w.bytes.now) (walk_in v r)

@@ -10,7 +10,7 @@ use lib.ListN.{length, get_or, set, length-set, length-append}
 use lib.Seq.{get_or-set_same, get_or-set_other}
 use lib.Dec.{leb, ltb, eqb}
 use borrow.Author.Tests.{le-leb, lt-leb, le-ltb}
-use Rattle.std.proofs.Common.{Ok, Err}
+use Rattle.std.proofs.Common.{Err}
 use Rattle.wire.specs.Choose.{pick, or}
 use Rattle.wire.specs.declared.verdict.Verdict.TheVariants.{Wide}
 use Rattle.payload.specs.declared.row.Value.{Value}
@@ -156,7 +156,3 @@ module _ (f : FineRows) where
           at j a b (no d) =
               let z : j ≡ i = omega arith in
               rw z (get_or-set_same held i below 0 (omega (arith, inv.long, f.table.now.sound.fine.few)) ∙ below_is)
-
-  pub sizing_end : (held sums : List ℕ) → Sizing held sums 0
-      → Ok (get_or sums 0 0) ≡ measured_is (wide_under width 1 (parts_at f 0)) (length (bytes_at f 0))
-  sizing_end held sums inv = rw (inv.narrow, inv.sum_is 0 (omega arith))

@@ -15,23 +15,17 @@ use mir.Val.{SFits}
 use borrow.Author.Tests.{ltb-true, lt-ltb, le-ltb, ltb-false, ne_eqb, eq-eqb}
 use Rattle.wire.specs.Choose.{and}
 use Rattle.wire.specs.Number.{half, twos_of}
-use Rattle.wire.specs.Kind.{size_of, string, array, struct}
+use Rattle.wire.specs.Kind.{size_of, string, array}
 use Rattle.wire.specs.Text.{text_fits}
 use Rattle.wire.specs.Part.{run_of}
 use Rattle.payload.specs.declared.table.TypeRow.{TypeRow}
 use Rattle.payload.specs.Table.{in_range}
-use Rattle.payload.specs.Judging.{unsigned_fits, signed_in, signed_fits, float_fits, run_fits}
+use Rattle.payload.specs.Judging.{unsigned_fits, signed_in, signed_fits, run_fits}
 use Rattle.payload.specs.Judging.{flip_of}
 use Rattle.wire.proofs.NumberLaws.{pow_bytes}
 use Rattle.wire.proofs.KindLaws.{size_small, number_some}
 use Rattle.payload.proofs.Joined.{and_left, and_right, refuted}
 use Rattle.payload.proofs.Rules.RowLaws.{range_in, in_range_lem}
-
--- ---- kinds
-
--- of the kinds with a length field, one that is no string and no struct is an array
-pub array_is : (k : ℕ) → string ≤ k → k < 15 → (k ≡ string → ⊥) → (k ≡ struct → ⊥) → k ≡ array
-array_is k a b c d = omega arith
 
 -- ---- a number's range, by its first byte
 
@@ -92,16 +86,6 @@ module _ (k n : ℕ) where
   unsigned_in some ne h s es b e =
       let more : 2 ≤ k = omega (arith, ne) in
       rw (ne_eqb k 1 ne, in_range_lem 2 5 k more h) (e ∙ rw (es, all_bytes (size_of k) (number_some k some (omega arith))))
-
-  pub float_other : (own : ℕ) → (k ≡ own → ⊥) → false ≡ float_fits own k n
-  unfolding float_fits
-  float_other own ne = rw (ne_eqb k own ne)
-
-  pub float_in : (own : ℕ) → k ≡ own → 0 < own → own < 12 → (s : ℕ) → s ≡ size_of k → (b : Bool) → b ≡ ltb n (256 * 256 ^ (s - 1)) → b
-      ≡ float_fits own k n
-  unfolding float_fits
-  float_in own is some few s es b e =
-      rw (eq-eqb k own is) (e ∙ rw (es, all_bytes (size_of k) (number_some k (omega arith) (omega arith))))
 
 module _ (k : ℕ) (z : ℤ) where
   pub signed_other : (6 ≤ k → k ≤ 9 → ⊥) → false ≡ signed_fits k z
