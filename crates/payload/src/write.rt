@@ -1,7 +1,7 @@
 // Writing a payload.
 //
-// Rows are judged, then sizes are summed from the last row to the first, and then the members are written in table order. A struct is its tag
-// and its length field, and its members follow as the rows do. Nothing is written before all is settled.
+// Rows are judged, then sizes are summed from the last row to the first, and then the members are written in table order. A struct is its
+// tag and its length field, and its members follow as the rows do. Nothing is written before all is settled.
 
 ghost use Rattle.std.specs.Prelude.{◌≡◌, length};
 ghost use Rattle.payload.specs.Writing.{run_wire, outcome_of, result_is, output_is};
