@@ -5,37 +5,37 @@ ghost use Rattle.std.proofs.lemmas.List.Edits.{sets};
 ghost use Rattle.wire.specs.Kind.{size_of, string};
 ghost use Rattle.wire.specs.Text.{string_bytes};
 ghost use Rattle.wire.specs.Part.{run_of};
-ghost use Rattle.payload.specs.Cells.{kind_in, row_in, FineRow};
+ghost use Rattle.payload.specs.Cells.{kind_in};
 ghost use Rattle.payload.specs.Sizes.{content_len, own_len};
 ghost use Rattle.payload.specs.Fine.{cell_at, value_at, number_member, field_start, run_content, bytes_at, piece_at, Holds};
 
 use super::fine::FineRows;
 use super::row::Value;
-use super::table;
+use super::table::Cell;
 use wire::{kind, number, part, tag};
 
 // A number's member at `at`: tag and number. The answer is the next place.
-fn put_number(out: &mut [u8], at: usize, cell: u64, num: u64) -> usize
-    requires { FineRow (row_in cell) × (kind_in cell < string) × (at + (2 + size_of (kind_in cell)) ≤ length out.old) }
-    ensures next { result ≡ at + (2 + size_of (kind_in cell)) }
-    ensures output { out.new ≡ sets out.old at (number_member cell num) }
+fn put_number(out: &mut [u8], at: usize, cell: Cell, num: u64) -> usize
+    requires { (kind_in cell.bits < string) × (at + (2 + size_of (kind_in cell.bits)) ≤ length out.old) }
+    ensures next { result ≡ at + (2 + size_of (kind_in cell.bits)) }
+    ensures output { out.new ≡ sets out.old at (number_member cell.bits num) }
 {
-    let kind = table::kind_in(cell);
+    let kind = cell.kind();
     let size = kind::size_of(kind);
     let wire = u64::from(kind::kind_at(kind).wire);
-    number::write_number(out, at, 2, tag::tag_of(wire, table::ident_in(cell)));
+    number::write_number(out, at, 2, tag::tag_of(wire, cell.ident()));
     number::write_number(out, at + 2, size, num);
     at + (2 + size)
 }
 
 // What stands before a content of `len` bytes: tag and length field. The answer is the content's place.
-fn put_field(out: &mut [u8], at: usize, cell: u64, len: usize, fine: &FineRows) -> usize
-    requires { FineRow (row_in cell) × (at + (fine.now.table.now.width + 2) ≤ length out.old) }
+fn put_field(out: &mut [u8], at: usize, cell: Cell, len: usize, fine: &FineRows) -> usize
+    requires { (at + (fine.now.table.now.width + 2) ≤ length out.old) }
     ensures next { result ≡ at + (fine.now.table.now.width + 2) }
-    ensures output { out.new ≡ sets out.old at (field_start fine.now cell len) }
+    ensures output { out.new ≡ sets out.old at (field_start fine.now cell.bits len) }
 {
     let width = fine.table.width;
-    number::write_number(out, at, 2, tag::tag_of(fine.wire, table::ident_in(cell)));
+    number::write_number(out, at, 2, tag::tag_of(fine.wire, cell.ident()));
     number::write_number(out, at + 2, width, len as u64);
     at + (width + 2)
 }
@@ -56,18 +56,19 @@ fn put_text(out: &mut [u8], at: usize, content: &[u8], place: usize, len: usize)
 fn put_bytes(
     out: &mut [u8],
     at: usize,
-    cell: u64,
+    cell: Cell,
     place: usize,
     len: usize,
     fine: &FineRows,
 ) -> usize
-    requires { FineRow (row_in cell) × (place + len ≤ length fine.now.content.now)
-        × (at + (fine.now.table.now.width + 2 + content_len (kind_in cell) (Value.Bytes place len) 0) ≤ length out.old) }
-    ensures next { result ≡ at + (fine.now.table.now.width + 2 + content_len (kind_in cell) (Value.Bytes place len) 0) }
+    requires { (place + len ≤ length fine.now.content.now)
+        × (at + (fine.now.table.now.width + 2 + content_len (kind_in cell.bits) (Value.Bytes place len) 0) ≤ length out.old) }
+    ensures next { result ≡ at + (fine.now.table.now.width + 2 + content_len (kind_in cell.bits) (Value.Bytes place len) 0) }
     ensures output { out.new ≡ sets out.old at
-        (field_start fine.now cell (content_len (kind_in cell) (Value.Bytes place len) 0) ++ run_content fine.now cell place len) }
+        (field_start fine.now cell.bits (content_len (kind_in cell.bits) (Value.Bytes place len) 0)
+        ++ run_content fine.now cell.bits place len) }
 {
-    if table::kind_in(cell) == kind::STRING {
+    if cell.kind() == kind::STRING {
         let start = put_field(out, at, cell, len + 4, fine);
         put_text(out, start, fine.content, place, len);
         return start + (len + 4);

@@ -1,13 +1,12 @@
 // Verdicts 31 and 30, row by row.
 
 ghost use Rattle.std.specs.Prelude.{◌≡◌, ◌+◌, ◌-◌, ◌*◌, ◌^◌, ◌≤◌, ◌<◌, length, false, ltb};
-ghost use Rattle.payload.specs.Cells.{row_in, table_in, FineRow};
+ghost use Rattle.payload.specs.Cells.{row_in, table_in};
 ghost use Rattle.payload.specs.Judging.{outside, unsigned_fits, signed_fits, float_fits, run_fits, value_fits, row_fine};
 ghost use Rattle.payload.specs.Judging.{is_members, up_after, flip_of, judged_of, judging_is};
 
 use super::row::{Row, Value};
-use super::table;
-use super::table::CheckedTable;
+use super::table::{Cell, CheckedTable};
 use wire::verdict::Verdict;
 use wire::{kind, number, text};
 
@@ -86,23 +85,23 @@ fn float_fits(own: usize, kind: usize, bits: u64) -> bool
 }
 
 // Whether a run in the content buffer is of a row's kind.
-fn run_fits(cell: u64, place: usize, len: usize, content: &[u8]) -> bool
-    requires { FineRow (row_in cell) × (place + len ≤ length content.now) }
-    ensures { result ≡ run_fits content.now (row_in cell) place len }
+fn run_fits(cell: Cell, place: usize, len: usize, content: &[u8]) -> bool
+    requires { place + len ≤ length content.now }
+    ensures { result ≡ run_fits content.now (row_in cell.bits) place len }
 {
-    match table::kind_in(cell) {
+    match cell.kind() {
         kind::STRING => text::text_fits(&content[place..place + len]),
-        kind::ARRAY => len % kind::size_of(table::elem_in(cell)) == 0,
+        kind::ARRAY => len % kind::size_of(cell.elem()) == 0,
         _ => false,
     }
 }
 
 // Whether a present row's value is of its kind and range. A run lies in the content buffer.
-fn value_fits(cell: u64, r: Row, content: &[u8]) -> bool
-    requires { FineRow (row_in cell) × (outside (length content.now) r.value ≡ false) }
-    ensures { result ≡ value_fits content.now (row_in cell) r.value r.bits }
+fn value_fits(cell: Cell, r: Row, content: &[u8]) -> bool
+    requires { outside (length content.now) r.value ≡ false }
+    ensures { result ≡ value_fits content.now (row_in cell.bits) r.value r.bits }
 {
-    let k = table::kind_in(cell);
+    let k = cell.kind();
     let v = r.value;
     match v {
         Value::Absent => true,
@@ -117,13 +116,13 @@ fn value_fits(cell: u64, r: Row, content: &[u8]) -> bool
 
 // Whether a row fits where the levels up to `upto` are present.
 #[tactic(auto, unfolding(crate::specs::Judging::row_fine))]
-fn row_fine(cell: u64, r: Row, upto: u64, content: &[u8]) -> bool
-    requires { FineRow (row_in cell) × (outside (length content.now) r.value ≡ false) }
-    ensures { result ≡ row_fine content.now upto (row_in cell) r }
+fn row_fine(cell: Cell, r: Row, upto: u64, content: &[u8]) -> bool
+    requires { outside (length content.now) r.value ≡ false }
+    ensures { result ≡ row_fine content.now upto (row_in cell.bits) r }
 {
-    let present = table::level_in(cell) <= upto;
+    let present = cell.level() <= upto;
     if r.is_absent() {
-        !present || !table::is_required(cell)
+        !present || !cell.is_required()
     } else {
         present && value_fits(cell, r, content)
     }
@@ -131,10 +130,10 @@ fn row_fine(cell: u64, r: Row, upto: u64, content: &[u8]) -> bool
 
 // The levels that are present at the next row.
 #[tactic(auto, unfolding(crate::specs::Judging::up_after))]
-fn up_after(cell: u64, r: Row, upto: u64) -> u64
-    ensures { result ≡ up_after upto (row_in cell) r }
+fn up_after(cell: Cell, r: Row, upto: u64) -> u64
+    ensures { result ≡ up_after upto (row_in cell.bits) r }
 {
-    let level = table::level_in(cell);
+    let level = cell.level();
     if upto < level {
         upto
     } else if is_members(r.value) {
@@ -149,14 +148,15 @@ pub fn judge_rows(rows: &[Row; 64], table: &CheckedTable, content: &[u8]) -> Res
     ensures { result ≡ judging_is (judged_of content.now (table_in table.now.count table.now.cells) rows.now) }
 {
     let mut upto: u64 = 1;
-    for (row, cell) in rows.iter().zip(&table.cells[..table.count]) {
+    for (row, bits) in rows.iter().zip(&table.cells[..table.count]) {
         if is_outside(content.len(), row.value) {
             return Err(Verdict::Outside);
         }
-        if !row_fine(*cell, *row, upto, content) {
+        let cell = Cell { bits: *bits };
+        if !row_fine(cell, *row, upto, content) {
             return Err(Verdict::Value);
         }
-        upto = up_after(*cell, *row, upto);
+        upto = up_after(cell, *row, upto);
     }
     Ok(())
 }

@@ -4,12 +4,13 @@ ghost use Rattle.std.specs.Prelude.{◌≡◌, List, ℕ, ◌+◌, ◌-◌, ◌^
 ghost use Rattle.std.proofs.Math.Seq.{slice};
 ghost use Rattle.wire.specs.Number.{big, number_of};
 ghost use Rattle.wire.specs.Kind.{size_of, string, array, struct};
-ghost use Rattle.payload.specs.Cells.{row_in, kind_in, FineRow};
+ghost use Rattle.payload.specs.Cells.{row_in, kind_in};
 ghost use Rattle.payload.specs.Reading.{content_of, body_of};
 ghost use Rattle.payload.specs.Walking.{body_in, Inside, RowShown};
 
 use super::row::{Row, Value};
-use super::{rows, table};
+use super::rows;
+use super::table::Cell;
 use wire::verdict::Verdict;
 use wire::{kind, number, tag, text};
 
@@ -80,9 +81,9 @@ fn number_at(bytes: &[u8], at: usize, w: usize) -> u64
 }
 
 // The row of a string's content: its run covers the text alone, behind the mark and before the terminator.
-fn string_shown(bytes: &[u8], cell: u64, content: Span) -> Result<Row, Refusal>
-    requires { (kind_in cell ≡ string) × (content.from ≤ content.end) × (content.end ≤ length bytes.now) }
-    ensures { RowShown bytes.now (row_in cell) content result }
+fn string_shown(bytes: &[u8], cell: Cell, content: Span) -> Result<Row, Refusal>
+    requires { (kind_in cell.bits ≡ string) × (content.from ≤ content.end) × (content.end ≤ length bytes.now) }
+    ensures { RowShown bytes.now (row_in cell.bits) content result }
 {
     let Span { from, end } = content;
     if !text::string_fits(&bytes[from..end]) {
@@ -98,12 +99,12 @@ fn string_shown(bytes: &[u8], cell: u64, content: Span) -> Result<Row, Refusal>
 }
 
 // The row of an array's content, which is a multiple of the element size.
-fn array_shown(cell: u64, content: Span) -> Result<Row, Refusal>
-    requires { FineRow (row_in cell) × (kind_in cell ≡ array) × (content.from ≤ content.end) }
-    ensures { (p : List ℕ) → content.end ≤ length p → RowShown p (row_in cell) content result }
+fn array_shown(cell: Cell, content: Span) -> Result<Row, Refusal>
+    requires { (kind_in cell.bits ≡ array) × (content.from ≤ content.end) }
+    ensures { (p : List ℕ) → content.end ≤ length p → RowShown p (row_in cell.bits) content result }
 {
     let Span { from, end } = content;
-    if (end - from) % kind::size_of(table::elem_in(cell)) != 0 {
+    if (end - from) % kind::size_of(cell.elem()) != 0 {
         return Err(Refusal {
             verdict: Verdict::Array,
             place: from,
@@ -116,12 +117,12 @@ fn array_shown(cell: u64, content: Span) -> Result<Row, Refusal>
 }
 
 // The row that a known member's content shows; a struct's is its members'. For this crate's own walk.
-pub fn shown(bytes: &[u8], cell: u64, content: Span) -> Result<Row, Refusal>
-    requires { FineRow (row_in cell) × (kind_in cell < struct) × (content.from ≤ content.end) × (content.end ≤ length bytes.now)
-        × (kind_in cell < string → content.end ≡ content.from + size_of (kind_in cell)) }
-    ensures { RowShown bytes.now (row_in cell) content result }
+pub fn shown(bytes: &[u8], cell: Cell, content: Span) -> Result<Row, Refusal>
+    requires { (kind_in cell.bits < struct) × (content.from ≤ content.end) × (content.end ≤ length bytes.now)
+        × (kind_in cell.bits < string → content.end ≡ content.from + size_of (kind_in cell.bits)) }
+    ensures { RowShown bytes.now (row_in cell.bits) content result }
 {
-    let kind = table::kind_in(cell);
+    let kind = cell.kind();
     match kind {
         kind::STRING => string_shown(bytes, cell, content),
         kind::ARRAY => array_shown(cell, content),

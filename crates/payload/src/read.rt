@@ -7,10 +7,10 @@ ghost use Rattle.payload.specs.Reading.{cleared, checked_of, reading_of};
 ghost use Rattle.payload.specs.Reading.{lacks as lacks_of};
 ghost use Rattle.payload.specs.Walking.{types_in, met_in, inner_of, Ready, KnownRead, LevelRead, MemberRead};
 
+use super::member;
 use super::member::{Refusal, Span};
 use super::row::{Row, Value};
 use super::table::{CheckedTable, Table};
-use super::{member, table};
 use wire::verdict::Verdict;
 use wire::{kind, number, tag};
 
@@ -85,11 +85,8 @@ impl Walker<'_> {
         ensures { result ≡ lacks_of level.number (drop level.first (types_in self.now)) (drop level.first (met_in self.now)) }
     {
         for i in level.first..level.stop {
-            let cell = self.table.cells[i];
-            if table::level_in(cell) == level.number
-                && table::is_required(cell)
-                && self.rows[i].is_absent()
-            {
+            let cell = self.table.cell(i);
+            if cell.level() == level.number && cell.is_required() && self.rows[i].is_absent() {
                 return true;
             }
         }
@@ -108,8 +105,8 @@ impl Walker<'_> {
         requires { Ready self.old at level × (at + 2 ≤ level.span.end) × (row < self.old.table.now.count) × (level.number ≤ 4) }
         ensures { KnownRead self.old row wire at level result self.new }
     {
-        let cell = self.table.cells[row];
-        let kind = table::kind_in(cell);
+        let cell = self.table.cell(row);
+        let kind = cell.kind();
         if !kind::wire_fits(kind, wire) {
             return Err(Refusal {
                 verdict: Verdict::Wire,

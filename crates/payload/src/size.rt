@@ -8,7 +8,6 @@ ghost use Rattle.payload.specs.Fine.{parts_at, bytes_at, Holds};
 
 use super::fine::FineRows;
 use super::row::Value;
-use super::table;
 use wire::kind;
 use wire::verdict::Verdict;
 
@@ -79,8 +78,8 @@ pub fn measure(fine: &FineRows, held: &mut [usize; 64]) -> Result<usize, Verdict
     let mut sums = [0usize; 5];
     for i in (0..fine.table.count).rev() {
         let cell = fine.table.cell(i);
-        let kind = table::kind_in(cell);
-        let level = table::level_in(cell);
+        let kind = cell.kind();
+        let level = cell.level();
         let v = fine.rows[i].value;
         let below = sums[level as usize];
         if top <= content_len(kind, v, below) {

@@ -40,6 +40,51 @@ pub struct CheckedTable {
     pub ghost sound: { SoundTable cells count width },
 }
 
+// A cell of a checked table: one number whose row keeps the rules, so that what is asked of it needs no condition. Its methods are the
+// five functions below, which answer for any number.
+#[derive(Clone, Copy)]
+pub(crate) struct Cell {
+    pub bits: u64,
+    pub ghost fine: { FineRow (row_in bits) },
+}
+
+impl Cell {
+    // The level of the row.
+    pub(crate) fn level(self) -> u64
+        ensures { result ≡ level_in self.bits }
+    {
+        level_in(self.bits)
+    }
+
+    // The kind of the row.
+    pub(crate) fn kind(self) -> usize
+        ensures { result ≡ kind_in self.bits }
+    {
+        kind_in(self.bits)
+    }
+
+    // The element kind of the row.
+    pub(crate) fn elem(self) -> usize
+        ensures { result ≡ elem_in self.bits }
+    {
+        elem_in(self.bits)
+    }
+
+    // The Data ID of the row.
+    pub(crate) fn ident(self) -> u64
+        ensures { result ≡ ident_in self.bits }
+    {
+        ident_in(self.bits)
+    }
+
+    // Whether the row is required.
+    pub(crate) fn is_required(self) -> bool
+        ensures { result ≡ required_in self.bits }
+    {
+        is_required(self.bits)
+    }
+}
+
 impl CheckedTable {
     // The checked form of a table that keeps its rules. A reading and a writing would each copy the cells once more where it is a call.
     #[inline(always)]
@@ -59,12 +104,13 @@ impl CheckedTable {
     }
 
     // The cell of a row.
-    pub(crate) fn cell(&self, i: usize) -> u64
+    pub(crate) fn cell(&self, i: usize) -> Cell
         requires { i < self.now.count }
-        ensures is { result ≡ get_or self.now.cells i 0 }
-        ensures fine { FineRow (row_in result) }
+        ensures { result.bits ≡ get_or self.now.cells i 0 }
     {
-        self.cells[i]
+        Cell {
+            bits: self.cells[i],
+        }
     }
 
     // Where the rows of a level end that begin at `first`: at the first row above the level, or with the table.

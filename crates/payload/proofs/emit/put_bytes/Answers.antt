@@ -10,22 +10,22 @@ use Rattle.payload.specs.Cells.{kind_in}
 use Rattle.payload.specs.Fine.{field_start}
 use Rattle.payload.proofs.emit.put_bytes.Goals as goal
 
-pub returns-then-kind_in-eq-STRING-clause-output : goal.returns-then-kind_in-eq-STRING-clause-output
-returns-then-kind_in-eq-STRING-clause-output c =
+pub returns-then-kind-eq-STRING-clause-output : goal.returns-then-kind-eq-STRING-clause-output
+returns-then-kind-eq-STRING-clause-output c =
     let a = c.args in
     let f = a.fine.now in
-    let k : kind_in a.cell ≡ string = sym c.kind_in.ensures ∙ c.if-kind_in-eq-STRING.true in
+    let k : kind_in a.cell.bits ≡ string = sym c.kind.ensures ∙ c.if-kind-eq-STRING.true in
     let s = c.put_field-start.ensures in
-    let n : length (field_start f a.cell (a.len + 4)) ≡ f.table.now.width + 2 = simp (length-append, length_number_bytes) (omega arith) in
-    rw (eq-eqb (kind_in a.cell) string k, c.put_text.ensures, s.output, s.next, ← n)
-    (sym (sets_append (field_start f a.cell (a.len + 4)) (string_bytes (run_of f.content.now a.place a.len)) a.out.now a.at))
+    let n : length (field_start f a.cell.bits (a.len + 4)) ≡ f.table.now.width + 2 = simp (length-append, length_number_bytes) (omega arith) in
+    rw (eq-eqb (kind_in a.cell.bits) string k, c.put_text.ensures, s.output, s.next, ← n)
+    (sym (sets_append (field_start f a.cell.bits (a.len + 4)) (string_bytes (run_of f.content.now a.place a.len)) a.out.now a.at))
 
 pub returns-clause-output : goal.returns-clause-output
 returns-clause-output c =
     let a = c.args in
     let f = a.fine.now in
-    let k : kind_in a.cell ≡ string → ⊥ = λ e. c.if-kind_in-eq-STRING.false (c.kind_in.ensures ∙ e) in
+    let k : kind_in a.cell.bits ≡ string → ⊥ = λ e. c.if-kind-eq-STRING.false (c.kind.ensures ∙ e) in
     let s = c.put_field-start-2.ensures in
-    let n : length (field_start f a.cell a.len) ≡ f.table.now.width + 2 = simp (length-append, length_number_bytes) (omega arith) in
-    rw (ne_eqb (kind_in a.cell) string k, c.put_run.ensures, s.output, s.next, ← n)
-    (sym (sets_append (field_start f a.cell a.len) (run_of f.content.now a.place a.len) a.out.now a.at))
+    let n : length (field_start f a.cell.bits a.len) ≡ f.table.now.width + 2 = simp (length-append, length_number_bytes) (omega arith) in
+    rw (ne_eqb (kind_in a.cell.bits) string k, c.put_run.ensures, s.output, s.next, ← n)
+    (sym (sets_append (field_start f a.cell.bits a.len) (run_of f.content.now a.place a.len) a.out.now a.at))

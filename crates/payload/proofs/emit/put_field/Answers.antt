@@ -9,6 +9,6 @@ use Rattle.payload.proofs.emit.put_field.Goals as goal
 pub returns-clause-output : goal.returns-clause-output
 returns-clause-output c =
     let a = c.args in
-    let tag = tag_of 0 a.fine.now.wire (ident_in a.cell) in
-    rw (c.write_number-2.ensures, c.write_number.ensures, c.tag_of.ensures.0, c.ident_in.ensures)
+    let tag = tag_of 0 a.fine.now.wire (ident_in a.cell.bits) in
+    rw (c.write_number-2.ensures, c.write_number.ensures, c.tag_of.ensures.0, c.ident.ensures)
     (two_stores a.out.now (number_bytes big 2 tag) (number_bytes big a.fine.now.table.now.width a.len) a.at 2 (length_number_bytes 2 tag))

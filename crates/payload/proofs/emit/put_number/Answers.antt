@@ -10,6 +10,6 @@ use Rattle.payload.proofs.emit.put_number.Goals as goal
 pub returns-clause-output : goal.returns-clause-output
 returns-clause-output c =
     let a = c.args in
-    let tag = tag_of 0 (kind_at (kind_in a.cell)).wire (ident_in a.cell) in
-    rw (c.write_number-2.ensures, c.write_number.ensures, c.tag_of.ensures.0, c.ident_in.ensures, c.from-wire.ensures, c.kind_at.ensures, c.size_of-size.ensures.0, c.kind_in-kind.ensures)
-    (two_stores a.out.now (number_bytes big 2 tag) (number_bytes big (size_of (kind_in a.cell)) a.num) a.at 2 (length_number_bytes 2 tag))
+    let tag = tag_of 0 (kind_at (kind_in a.cell.bits)).wire (ident_in a.cell.bits) in
+    rw (c.write_number-2.ensures, c.write_number.ensures, c.tag_of.ensures.0, c.ident.ensures, c.from-wire.ensures, c.kind_at.ensures, c.size_of-size.ensures.0, c.kind-kind.ensures)
+    (two_stores a.out.now (number_bytes big 2 tag) (number_bytes big (size_of (kind_in a.cell.bits)) a.num) a.at 2 (length_number_bytes 2 tag))

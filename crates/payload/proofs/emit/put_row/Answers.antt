@@ -24,9 +24,8 @@ put_number-requires c =
     let i = c.args.i in
     let e = c.in-Unsigned.is in
     let k = fits_now f i c.requires.0 (Unsigned c.in-Unsigned.n) e in (
-      c.cell-cell.ensures.fine,
-      rw c.cell-cell.ensures.is (unsigned_kind f.content.now (row_in (cell_at f i)) c.in-Unsigned.n k.fits),
-      rw c.cell-cell.ensures.is (rw e at c.requires.1),
+      rw c.cell-cell.ensures (unsigned_kind f.content.now (row_in (cell_at f i)) c.in-Unsigned.n k.fits),
+      rw c.cell-cell.ensures (rw e at c.requires.1),
     )
 
 pub returns-in-Unsigned-clause-output : goal.returns-in-Unsigned-clause-output
@@ -36,7 +35,7 @@ returns-in-Unsigned-clause-output c =
     let i = c.args.i in
     let n = c.in-Unsigned.n in
     let k = fits_now f i c.requires.0 (Unsigned n) c.in-Unsigned.is in
-    rw (c.put_number.ensures.output, c.cell-cell.ensures.is)
+    rw (c.put_number.ensures.output, c.cell-cell.ensures)
     (ap (sets c.args.out.now c.args.at) (number_stored f i c.requires.0 (Unsigned n) c.in-Unsigned.is
     (unsigned_kind f.content.now (row_in (cell_at f i)) n k.fits) n refl c.args.held))
 
@@ -46,9 +45,8 @@ put_number-requires-in-Signed c =
     let i = c.args.i in
     let e = c.in-Signed.is in
     let k = fits_now f i c.requires.0 (Signed c.in-Signed.z) e in (
-      c.cell-cell.ensures.fine,
-      rw c.cell-cell.ensures.is (signed_kind f.content.now (row_in (cell_at f i)) c.in-Signed.z k.fits),
-      rw c.cell-cell.ensures.is (rw e at c.requires.1),
+      rw c.cell-cell.ensures (signed_kind f.content.now (row_in (cell_at f i)) c.in-Signed.z k.fits),
+      rw c.cell-cell.ensures (rw e at c.requires.1),
     )
 
 pub returns-in-Signed-clause-output : goal.returns-in-Signed-clause-output
@@ -59,7 +57,7 @@ returns-in-Signed-clause-output c =
     let z = c.in-Signed.z in
     let k = fits_now f i c.requires.0 (Signed z) c.in-Signed.is in
     let w = to_z-of_z (signed_small (kind_in (cell_at f i)) z k.fits) in
-    rw (c.put_number-in-Signed.ensures.output, c.cell-cell.ensures.is, c.twos_of.ensures, w)
+    rw (c.put_number-in-Signed.ensures.output, c.cell-cell.ensures, c.twos_of.ensures, w)
     (ap (sets c.args.out.now c.args.at) (number_stored f i c.requires.0 (Signed z) c.in-Signed.is
     (signed_kind f.content.now (row_in (cell_at f i)) z k.fits) (twos_of 8 z)
     (ap leaf (sym (signed_bytes f.content.now (row_in (cell_at f i)) z k.fits))) c.args.held))
@@ -70,9 +68,8 @@ put_number-requires-in-Float32 c =
     let i = c.args.i in
     let e = c.in-Float32.is in
     let k = fits_now f i c.requires.0 (Float32 c.in-Float32.field-0) e in (
-      c.cell-cell.ensures.fine,
-      rw c.cell-cell.ensures.is (float_kind f.content.now (row_in (cell_at f i)) 10 (value_at f i).bits (omega arith) k.fits),
-      rw c.cell-cell.ensures.is (rw e at c.requires.1),
+      rw c.cell-cell.ensures (float_kind f.content.now (row_in (cell_at f i)) 10 (value_at f i).bits (omega arith) k.fits),
+      rw c.cell-cell.ensures (rw e at c.requires.1),
     )
 
 pub returns-in-Float32-clause-output : goal.returns-in-Float32-clause-output
@@ -81,7 +78,7 @@ returns-in-Float32-clause-output c =
     let f = c.args.fine.now in
     let i = c.args.i in
     let k = fits_now f i c.requires.0 (Float32 c.in-Float32.field-0) c.in-Float32.is in
-    rw (c.put_number-in-Float32.ensures.output, c.cell-cell.ensures.is)
+    rw (c.put_number-in-Float32.ensures.output, c.cell-cell.ensures)
     (ap (sets c.args.out.now c.args.at) (number_stored f i c.requires.0 (Float32 c.in-Float32.field-0) c.in-Float32.is
     (float_kind f.content.now (row_in (cell_at f i)) 10 (value_at f i).bits (omega arith) k.fits) (value_at f i).bits refl c.args.held))
 
@@ -91,9 +88,8 @@ put_number-requires-in-Float64 c =
     let i = c.args.i in
     let e = c.in-Float64.is in
     let k = fits_now f i c.requires.0 (Float64 c.in-Float64.field-0) e in (
-      c.cell-cell.ensures.fine,
-      rw c.cell-cell.ensures.is (float_kind f.content.now (row_in (cell_at f i)) 11 (value_at f i).bits (omega arith) k.fits),
-      rw c.cell-cell.ensures.is (rw e at c.requires.1),
+      rw c.cell-cell.ensures (float_kind f.content.now (row_in (cell_at f i)) 11 (value_at f i).bits (omega arith) k.fits),
+      rw c.cell-cell.ensures (rw e at c.requires.1),
     )
 
 pub returns-in-Float64-clause-output : goal.returns-in-Float64-clause-output
@@ -102,7 +98,7 @@ returns-in-Float64-clause-output c =
     let f = c.args.fine.now in
     let i = c.args.i in
     let k = fits_now f i c.requires.0 (Float64 c.in-Float64.field-0) c.in-Float64.is in
-    rw (c.put_number-in-Float64.ensures.output, c.cell-cell.ensures.is)
+    rw (c.put_number-in-Float64.ensures.output, c.cell-cell.ensures)
     (ap (sets c.args.out.now c.args.at) (number_stored f i c.requires.0 (Float64 c.in-Float64.field-0) c.in-Float64.is
     (float_kind f.content.now (row_in (cell_at f i)) 11 (value_at f i).bits (omega arith) k.fits) (value_at f i).bits refl c.args.held))
 
@@ -112,18 +108,17 @@ put_bytes-requires c =
     let i = c.args.i in
     let e = c.in-Bytes.is in
     let k = fits_now f i c.requires.0 (Bytes c.in-Bytes.place c.in-Bytes.len) e in (
-      c.cell-cell.ensures.fine,
       ltb-false (length f.content.now) (c.in-Bytes.place + c.in-Bytes.len) k.inside,
-      rw c.cell-cell.ensures.is (rw e at c.requires.1),
+      rw c.cell-cell.ensures (rw e at c.requires.1),
     )
 
 pub returns-in-Bytes-clause-output : goal.returns-in-Bytes-clause-output
 returns-in-Bytes-clause-output c =
-    rw (c.put_bytes.ensures.output, c.cell-cell.ensures.is)
+    rw (c.put_bytes.ensures.output, c.cell-cell.ensures)
     (ap (sets c.args.out.now c.args.at)
     (bytes_stored c.args.fine.now c.args.i c.requires.0 c.in-Bytes.place c.in-Bytes.len c.in-Bytes.is c.args.held))
 
 pub returns-in-Members-clause-output : goal.returns-in-Members-clause-output
 returns-in-Members-clause-output c =
-    rw (c.put_field.ensures.output, c.cell-cell.ensures.is)
+    rw (c.put_field.ensures.output, c.cell-cell.ensures)
     (ap (sets c.args.out.now c.args.at) (members_stored c.args.fine.now c.args.i c.requires.0 c.in-Members.is c.args.held))

@@ -20,11 +20,14 @@ returns-then-is_outside c =
     let d = rw (s.0, s.1) at c.loop-row.invariant.decides in
     rw (sym d ∙ judged_outside _ _ _ _ _ _ (sym c.is_outside.ensures ∙ c.if-is_outside.true))
 
-pub row_fine-requires : goal.row_fine-requires
-row_fine-requires c =
+pub invariant_of-cell : goal.invariant_of-cell
+invariant_of-cell c =
     let s = c.in-Some.ensures.steps in
     let f = rw s.1 at c.loop-row.invariant.fine in
-    (f 0 (omega arith), sym c.is_outside.ensures ∙ c.if-is_outside.false)
+    record { fine = f 0 (omega arith) }
+
+pub row_fine-requires : goal.row_fine-requires
+row_fine-requires c = sym c.is_outside.ensures ∙ c.if-is_outside.false
 
 pub returns-then-not-row_fine : goal.returns-then-not-row_fine
 returns-then-not-row_fine c =

@@ -13,16 +13,16 @@ use Rattle.payload.proofs.judge.run_fits.Goals as goal
 pub returns-in-12 : goal.returns-in-12
 returns-in-12 c =
     let a = c.args in
-    run_text a.content.now (row_in a.cell) a.place a.len (sym c.kind_in.ensures ∙ c.in-12.is) _
+    run_text a.content.now (row_in a.cell.bits) a.place a.len (sym c.kind.ensures ∙ c.in-12.is) _
     (c.text_fits.ensures ∙ ap (λ (l : List ℕ). text_fits l) (cut_slice a.place (a.place + a.len) a.content.now (omega arith)))
 
 pub returns-in-13 : goal.returns-in-13
 returns-in-13 c =
     let a = c.args in
-    let k : kind_in a.cell ≡ 13 = sym c.kind_in.ensures ∙ c.in-13.is in
-    run_array a.content.now (row_in a.cell) a.place a.len (λ e. omega arith) k _ (c.size_of.ensures.0 ∙ ap size_of c.elem_in.ensures)
+    let k : kind_in a.cell.bits ≡ 13 = sym c.kind.ensures ∙ c.in-13.is in
+    run_array a.content.now (row_in a.cell.bits) a.place a.len (λ e. omega arith) k _ (c.size_of.ensures.0 ∙ ap size_of c.elem.ensures)
 
 pub returns-in_default : goal.returns-in_default
 returns-in_default c =
     let a = c.args in
-    run_other a.content.now (row_in a.cell) a.place a.len (λ e. omega arith) (λ e. omega arith)
+    run_other a.content.now (row_in a.cell.bits) a.place a.len (λ e. omega arith) (λ e. omega arith)

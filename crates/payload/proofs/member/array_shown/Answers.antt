@@ -10,13 +10,13 @@ use Rattle.payload.proofs.member.array_shown.Goals as goal
 pub nonzero_rem-end : goal.nonzero_rem-end
 nonzero_rem-end c =
     let q = c.requires in
-    let n = c.elem_in.ensures in
-    omega (arith, c.size_of.ensures.0, number_some c.elem_in.result (omega (arith, q.0.array_in q.1)) (omega (arith, q.0.elem_in_lem)))
+    let n = c.elem.ensures in
+    omega (arith, c.size_of.ensures.0, number_some c.elem.result (omega (arith, c.args.cell.fine.array_in q.0)) (omega (arith, c.args.cell.fine.elem_in_lem)))
 
 pub returns-then-end-from-ne0 : goal.returns-then-end-from-ne0
 returns-then-end-from-ne0 c = λ p l.
-    shows_no_array p _ _ l _ c.requires.1 _ (c.size_of.ensures.0 ∙ ap size_of c.elem_in.ensures) c.if-end-from-ne0.true refl
+    shows_no_array p _ _ l _ c.requires.0 _ (c.size_of.ensures.0 ∙ ap size_of c.elem.ensures) c.if-end-from-ne0.true refl
 
 pub returns : goal.returns
 returns c = λ p l.
-    shows_array p _ _ l _ c.requires.1 _ (c.size_of.ensures.0 ∙ ap size_of c.elem_in.ensures) c.if-end-from-ne0.false (ap Ok c.plain.ensures)
+    shows_array p _ _ l _ c.requires.0 _ (c.size_of.ensures.0 ∙ ap size_of c.elem.ensures) c.if-end-from-ne0.false (ap Ok c.plain.ensures)

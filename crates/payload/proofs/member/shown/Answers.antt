@@ -10,6 +10,6 @@ use Rattle.payload.proofs.member.shown.Goals as goal
 pub returns-in_default : goal.returns-in_default
 returns-in_default c =
     let a = c.args in
-    let few : kind_in a.cell < 12 = omega (arith, c.kind_in-kind.ensures) in
-    let to : a.content.from + (a.content.end - a.content.from) ≡ a.content.end = omega (arith, c.requires.2) in
-    shows_number _ _ _ c.requires.3 _ few _ to _ c.number_at.ensures.0 (ap Ok (rw (← c.kind_in-kind.ensures) c.number_row.ensures))
+    let few : kind_in a.cell.bits < 12 = omega (arith, c.kind-kind.ensures) in
+    let to : a.content.from + (a.content.end - a.content.from) ≡ a.content.end = omega (arith, c.requires.1) in
+    shows_number _ _ _ c.requires.2 _ few _ to _ c.number_at.ensures.0 (ap Ok (rw (← c.kind-kind.ensures) c.number_row.ensures))

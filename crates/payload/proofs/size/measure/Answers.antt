@@ -15,7 +15,7 @@ content_len-requires c =
     let i = c.loop-i.i - 1 in
     let h : i < f.table.now.count = omega arith in
     let short : length f.content.now < 9223372036854775808 = omega arith in (
-      rw c.kind_in-kind.ensures c.cell-cell.ensures.fine.kind_in_lem,
+      rw c.kind-kind.ensures c.cell-cell.result.fine.kind_in_lem,
       inside_short (length f.content.now) (value_at f i).value (fits_at f i h).inside short,
     )
 
@@ -26,9 +26,9 @@ returns-then-top-content_len-clause-answer c =
     let i = t.i - 1 in
     let h : i < f.table.now.count = omega arith in
     let e : suc i ≡ t.i = omega arith in
-    sizing_wide f t.held t.sums i (rw e t.invariant) h (get_or t.sums c.level_in-level.result 0)
-    (rw (c.level_in-level.ensures, c.cell-cell.ensures.is))
-    (rw (c.field_top-top.ensures, c.content_len.ensures, c.kind_in-kind.ensures, c.cell-cell.ensures.is) at c.if-top-content_len.true)
+    sizing_wide f t.held t.sums i (rw e t.invariant) h (get_or t.sums c.level-level.result 0)
+    (rw (c.level-level.ensures, c.cell-cell.ensures))
+    (rw (c.field_top-top.ensures, c.content_len.ensures, c.kind-kind.ensures, c.cell-cell.ensures) at c.if-top-content_len.true)
 
 pub loop-i-preserved : goal.loop-i-preserved
 loop-i-preserved c =
@@ -37,9 +37,9 @@ loop-i-preserved c =
     let i = t.i - 1 in
     let h : i < f.table.now.count = omega arith in
     let e : suc i ≡ t.i = omega arith in
-    sizing_next f t.held t.sums i (rw e t.invariant) h (get_or t.sums c.level_in-level.result 0)
-    (rw (c.level_in-level.ensures, c.cell-cell.ensures.is))
-    (rw (c.field_top-top.ensures, c.content_len.ensures, c.kind_in-kind.ensures, c.cell-cell.ensures.is) at c.if-top-content_len.false)
+    sizing_next f t.held t.sums i (rw e t.invariant) h (get_or t.sums c.level-level.result 0)
+    (rw (c.level-level.ensures, c.cell-cell.ensures))
+    (rw (c.field_top-top.ensures, c.content_len.ensures, c.kind-kind.ensures, c.cell-cell.ensures) at c.if-top-content_len.false)
     c.count_in.new.sums c.count_in.ensures.long
     (λ d q. c.count_in.ensures.each d q ∙ rw
-    (c.level_in-level.ensures, c.head_len.ensures, c.content_len-in-loop-i.ensures, c.kind_in-kind.ensures, c.cell-cell.ensures.is))
+    (c.level-level.ensures, c.head_len.ensures, c.content_len-in-loop-i.ensures, c.kind-kind.ensures, c.cell-cell.ensures))

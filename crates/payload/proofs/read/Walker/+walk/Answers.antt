@@ -3,7 +3,6 @@ use mathlib.Core.Path.{◌≡◌, sym, ap, ◌∙◌}
 use Prim.Native.Nat.{ℕ, ◌<◌}
 use native.Mathlib.Omega.{arith}
 use mathlib.Core.Bool.{Bool}
-use lib.ListN.{get_or}
 use Rattle.std.proofs.lemmas.Result.{err_from_is_err_and}
 use Rattle.wire.specs.Kind.{wire_fits}
 use Rattle.wire.proofs.KindLaws.{number_fixed}
@@ -22,41 +21,40 @@ fits wire e d h = ap (λ (x : ℕ). wire_fits x wire) (sym e) ∙ sym d ∙ h
 pub read_known-returns-then-not-wire_fits : goal.read_known-returns-then-not-wire_fits
 read_known-returns-then-not-wire_fits t c =
     let q = c.requires in
-    known_wire _ _ _ q.0 _ _ q.2 q.1 (fits _ c.kind_in-kind.ensures c.wire_fits.ensures c.if-not-wire_fits.true)
+    known_wire _ _ _ q.0 _ _ q.2 q.1 (fits _ (c.kind-kind.ensures ∙ ap kind_in c.cell-cell.ensures) c.wire_fits.ensures c.if-not-wire_fits.true)
 
 pub read_known-returns-then-not-is_absent : goal.read_known-returns-then-not-is_absent
 read_known-returns-then-not-is_absent t c =
     let q = c.requires in
-    known_twice _ _ _ q.0 _ _ q.2 q.1 (fits _ c.kind_in-kind.ensures c.wire_fits.ensures c.if-not-wire_fits.false)
+    known_twice _ _ _ q.0 _ _ q.2 q.1 (fits _ (c.kind-kind.ensures ∙ ap kind_in c.cell-cell.ensures) c.wire_fits.ensures c.if-not-wire_fits.false)
     (sym c.is_absent.ensures ∙ c.if-not-is_absent.true)
 
 pub read_known-returns-in_err-content : goal.read_known-returns-in_err-content
 read_known-returns-in_err-content t c =
     let q = c.requires in
     let p = err_from_is_err_and c.from_residual.result c.from_residual.ensures.1 in
-    rw (p.1, p.2) (known_cut _ _ _ q.0 _ _ q.2 q.1 (fits _ c.kind_in-kind.ensures c.wire_fits.ensures c.if-not-wire_fits.false)
+    rw (p.1, p.2) (known_cut _ _ _ q.0 _ _ q.2 q.1 (fits _ (c.kind-kind.ensures ∙ ap kind_in c.cell-cell.ensures) c.wire_fits.ensures c.if-not-wire_fits.false)
     (sym c.is_absent.ensures ∙ c.if-not-is_absent.false) _ c.in_err-content.ensures.is)
 
 pub read_known-returns-in_err-read_level : goal.read_known-returns-in_err-read_level
 read_known-returns-in_err-read_level t c =
     let q = c.requires in
     let p = err_from_is_err_and c.from_residual-in_err-read_level.result c.from_residual-in_err-read_level.ensures.1 in
-    rw (p.1, p.2) (known_stuck _ _ _ q.0 _ _ q.2 q.1 (fits _ c.kind_in-kind.ensures c.wire_fits.ensures c.if-not-wire_fits.false)
+    rw (p.1, p.2) (known_stuck _ _ _ q.0 _ _ q.2 q.1 (fits _ (c.kind-kind.ensures ∙ ap kind_in c.cell-cell.ensures) c.wire_fits.ensures c.if-not-wire_fits.false)
     (sym c.is_absent.ensures ∙ c.if-not-is_absent.false) _ c.in_ok-content.ensures.is c.in_ok-content.ensures.inside
-    (sym c.kind_in-kind.ensures ∙ c.if-kind-eq-STRUCT.true) q.3 _ c.inner.ensures.is c.inner.ensures.stops _ _ (rw c.plain.ensures at c.read_level.ensures)
+    (sym (c.kind-kind.ensures ∙ ap kind_in c.cell-cell.ensures) ∙ c.if-kind-eq-STRUCT.true) q.3 _ c.inner.ensures.is c.inner.ensures.stops _ _ (rw c.plain.ensures at c.read_level.ensures)
     _ c.in_err-read_level.was)
 
 pub read_known-shown-requires : goal.read_known-shown-requires
 read_known-shown-requires t c =
     let q = c.requires in
-    let fine = c.args.self.now.table.now.sound.fine.each c.args.row q.2 in
+    let fine = c.cell-cell.result.fine in
     let s = c.in_ok-content.ensures.inside in
-    let few : kind_in (get_or c.args.self.now.table.now.cells c.args.row 0) < 14 = omega (arith, fine.kind_in_lem, c.kind_in-kind.ensures) in (
-      fine,
+    let few : kind_in c.cell-cell.result.bits < 14 = omega (arith, fine.kind_in_lem, c.kind-kind.ensures) in (
       few,
       s.1,
       omega (arith, s.2, q.0.steady.bounded),
-      λ k. let d = number_fixed _ fine.kind_some k _ (fits _ c.kind_in-kind.ensures c.wire_fits.ensures c.if-not-wire_fits.false) in
+      λ k. let d = number_fixed _ fine.kind_some k _ (fits _ c.kind-kind.ensures c.wire_fits.ensures c.if-not-wire_fits.false) in
           fixed_sized _ _ _ _ d.0 _ _ _ _ c.in_ok-content.ensures.is ∙ rw d.1,
     )
 
@@ -64,22 +62,22 @@ pub read_known-returns-in_err-self : goal.read_known-returns-in_err-self
 read_known-returns-in_err-self t c =
     let q = c.requires in
     let p = err_from_is_err_and c.from_residual-in_err-self.result c.from_residual-in_err-self.ensures.1 in
-    rw (p.1, p.2) (known_unshown _ _ _ q.0 _ _ q.2 q.1 (fits _ c.kind_in-kind.ensures c.wire_fits.ensures c.if-not-wire_fits.false)
-    (sym c.is_absent.ensures ∙ c.if-not-is_absent.false) _ c.in_ok-content.ensures.is c.in_ok-content.ensures.inside _ c.shown.ensures _ c.in_err-self.was)
+    rw (p.1, p.2) (known_unshown _ _ _ q.0 _ _ q.2 q.1 (fits _ (c.kind-kind.ensures ∙ ap kind_in c.cell-cell.ensures) c.wire_fits.ensures c.if-not-wire_fits.false)
+    (sym c.is_absent.ensures ∙ c.if-not-is_absent.false) _ c.in_ok-content.ensures.is c.in_ok-content.ensures.inside _ (rw c.cell-cell.ensures at c.shown.ensures) _ c.in_err-self.was)
 
 pub read_known-returns-in_ok-read_level : goal.read_known-returns-in_ok-read_level
 read_known-returns-in_ok-read_level t c =
     let q = c.requires in
-    known_entered _ _ _ q.0 _ _ q.2 q.1 (fits _ c.kind_in-kind.ensures c.wire_fits.ensures c.if-not-wire_fits.false)
+    known_entered _ _ _ q.0 _ _ q.2 q.1 (fits _ (c.kind-kind.ensures ∙ ap kind_in c.cell-cell.ensures) c.wire_fits.ensures c.if-not-wire_fits.false)
     (sym c.is_absent.ensures ∙ c.if-not-is_absent.false) _ c.in_ok-content.ensures.is c.in_ok-content.ensures.inside
-    (sym c.kind_in-kind.ensures ∙ c.if-kind-eq-STRUCT.true) q.3 _ c.inner.ensures.is c.inner.ensures.stops _ _ (rw c.plain.ensures at c.read_level.ensures)
+    (sym (c.kind-kind.ensures ∙ ap kind_in c.cell-cell.ensures) ∙ c.if-kind-eq-STRUCT.true) q.3 _ c.inner.ensures.is c.inner.ensures.stops _ _ (rw c.plain.ensures at c.read_level.ensures)
     c.in_ok-read_level.was
 
 pub read_known-returns-in_ok-self : goal.read_known-returns-in_ok-self
 read_known-returns-in_ok-self t c =
     let q = c.requires in
-    known_shown _ _ _ q.0 _ _ q.2 q.1 (fits _ c.kind_in-kind.ensures c.wire_fits.ensures c.if-not-wire_fits.false)
-    (sym c.is_absent.ensures ∙ c.if-not-is_absent.false) _ c.in_ok-content.ensures.is c.in_ok-content.ensures.inside _ c.shown.ensures _ c.in_ok-self.was
+    known_shown _ _ _ q.0 _ _ q.2 q.1 (fits _ (c.kind-kind.ensures ∙ ap kind_in c.cell-cell.ensures) c.wire_fits.ensures c.if-not-wire_fits.false)
+    (sym c.is_absent.ensures ∙ c.if-not-is_absent.false) _ c.in_ok-content.ensures.is c.in_ok-content.ensures.inside _ (rw c.cell-cell.ensures at c.shown.ensures) _ c.in_ok-self.was
 
 -- ---- a level
 
