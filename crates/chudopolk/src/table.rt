@@ -9,15 +9,6 @@ use payload::table::{Table, TypeRow};
 // The numbers of a type row: level, Data ID, kind, element kind, and 1 for required or 0 for optional.
 const NUMBERS: usize = 5;
 
-// A row that no table may have.
-const NO_ROW: TypeRow = TypeRow {
-    level: 0,
-    ident: 0,
-    kind: 0,
-    elem: 0,
-    required: false,
-};
-
 // A type table beside its rows: how many there are, the width of length fields, and 1 where the writer uses the static wire type or 0 where
 // it tells the width in the tag.
 #[repr(C)]
@@ -55,9 +46,9 @@ fn rows_of(numbers: &[u64], n: usize) -> [TypeRow; 64]
     requires { (n ≤ 64) × (5 * n ≤ length numbers.now) }
     ensures { result ≡ type_rows_of n numbers.now }
 {
-    let mut rows = [NO_ROW; 64];
+    let mut rows = [TypeRow::NONE; 64];
     for i in 0..n {
-        rows[i] = type_row(numbers, i).unwrap_or(NO_ROW);
+        rows[i] = type_row(numbers, i).unwrap_or(TypeRow::NONE);
     }
     rows
 }

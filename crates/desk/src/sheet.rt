@@ -56,14 +56,7 @@ pub struct Sheet<'a> {
 impl<'a> Sheet<'a> {
     // The table as the library has it.
     pub fn table(&self) -> Table {
-        let none = TypeRow {
-            level: 0,
-            ident: 0,
-            kind: 0,
-            elem: 0,
-            required: false,
-        };
-        let mut rows = [none; 64];
+        let mut rows = [TypeRow::NONE; 64];
         for (to, from) in rows.iter_mut().zip(&self.rows) {
             *to = from.type_row();
         }

@@ -20,6 +20,17 @@ pub struct TypeRow {
     pub required: bool,
 }
 
+impl TypeRow {
+    // A row that no table may have: what stands in an array behind a table's rows, or for a row that is none.
+    pub const NONE: TypeRow = TypeRow {
+        level: 0,
+        ident: 0,
+        kind: 0,
+        elem: 0,
+        required: false,
+    };
+}
+
 // A type table: the first `count` of its rows, depth first; the width of its length fields; and whether the writer uses the static wire
 // type 4 or tells the width in the tag. An array and a count, for there is no heap; a wrong count gets the verdict of a wrong table.
 #[derive(Clone, Copy)]

@@ -65,13 +65,7 @@ fn table_of(fields: &mut Fields) -> Table {
     let count = usize::from(fields.byte());
     let width = usize::from(fields.byte());
     let fixed = fields.byte() == 1;
-    let mut rows = [TypeRow {
-        level: 0,
-        ident: 0,
-        kind: 0,
-        elem: 0,
-        required: false,
-    }; 64];
+    let mut rows = [TypeRow::NONE; 64];
     for row in rows.iter_mut().take(count) {
         *row = type_row(fields);
     }
