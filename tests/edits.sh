@@ -43,14 +43,15 @@ function_at() { # CRATE FILE LINE [GOAL]
         NR > at && !ahead { exit }
         NR == at && /^ *#\[/ { ahead = 1 }
         /^}/ { type = "" }
-        # A trait of its own has a name of both: From<Fields> for Header is HeaderFromFields, as rt names it.
+        # What implements a trait has a name of both, as rt names it: From<Result<usize, Verdict>> for Kept is KeptFromResultUsizeVerdict.
         /^impl/ {
             type = trait = $0
             sub(/.* for /, "", type); sub(/^impl */, "", type); sub(/[ <{].*/, "", type)
             if (!sub(/ for .*/, "", trait)) trait = ""
-            sub(/^impl(<[^>]*>)? */, "", trait); gsub(/[a-z_0-9]+::/, "", trait)
-            gsub(/&/, "Ref", trait); gsub(/[^A-Za-z0-9_]/, "", trait)
-            type = "::" type trait
+            sub(/^impl(<[^>]*>)? */, "", trait); gsub(/[a-z_0-9]+::/, "", trait); gsub(/&/, " Ref ", trait)
+            type = "::" type
+            words = split(trait, word, /[^A-Za-z0-9_]+/)
+            for (k = 1; k <= words; k++) type = type toupper(substr(word[k], 1, 1)) substr(word[k], 2)
         }
         !/^ *\/\// && match($0, /fn [a-z_0-9]+/) { last = type "::" substr($0, RSTART + 3, RLENGTH - 3); if (NR > at) exit }
         END { if (last) print name last }' "crates/$1/$2"
