@@ -37,7 +37,7 @@ for file in crates/*/src/*.rt; do
         /^(pub )?trait / { sub(/^(pub )?trait /, ""); type = "::" word($0); print "known " at type; next }
         /^pub (struct|enum) / { sub(/^pub (struct|enum) /, ""); print "known " at "::" word($0) }
         /^ *pub (extern "C" )?fn / { sub(/^ *pub (extern "C" )?fn /, ""); print "asked " at type "::" word($0); next }
-        /^ *fn / { sub(/^ *fn /, ""); print "known " at type "::" word($0) }' "$file"
+        /^ *(pub\([a-z]+\) )?fn / { sub(/^ *(pub\([a-z]+\) )?fn /, ""); print "known " at type "::" word($0) }' "$file"
 done > "$room/found"
 sed -n 's/^asked //p' "$room/found" > "$room/functions"
 sed 's/^[a-z]* //' "$room/found" >> "$room/names"

@@ -68,7 +68,8 @@ fn put_row(out: &mut [u64], at: usize, n: Numbers)
 
 // Stores the numbers of the first n rows over the first of the lent ones; those beyond stay. The rows come by value: of a slice of them
 // LLVM copies the whole array once more, which takes 318 instructions a message, and over 1,000 where the table is refused.
-pub fn put_rows(out: &mut [u64], rows: [Row; 64], n: usize)
+// For this library's own reading, which has looked that so many are lent.
+pub(crate) fn put_rows(out: &mut [u64], rows: [Row; 64], n: usize)
     requires { (n ≤ 64) × (length rows ≡ 64) × (4 * n ≤ length out.old) }
     ensures { out.new ≡ flat (take n rows) ++ drop (4 * n) out.old }
 {

@@ -51,7 +51,7 @@ pub struct Records<'a> {
 }
 
 impl<'a> Records<'a> {
-    // Those before a place.
+    // Those before a place. For this program's own walks: a trailer's offset has 32 bits.
     pub fn before(file: &'a [u8], end: usize) -> Records<'a>
         requires { end < 4294967296 }
     {

@@ -91,8 +91,7 @@ fn put_row(out: &mut [u8], at: usize, i: usize, held: usize, fine: &FineRows) ->
         Value::Absent => at,
         Value::Unsigned(n) => put_number(out, at, cell, n),
         Value::Signed(z) => put_number(out, at, cell, number::twos_of(z)),
-        Value::Float32(_) => put_number(out, at, cell, row.bits),
-        Value::Float64(_) => put_number(out, at, cell, row.bits),
+        Value::Float32(_) | Value::Float64(_) => put_number(out, at, cell, row.bits),
         Value::Bytes { place, len } => put_bytes(out, at, cell, place, len, fine),
         Value::Members => put_field(out, at, cell, held, fine),
     }
@@ -100,7 +99,7 @@ fn put_row(out: &mut [u8], at: usize, i: usize, held: usize, fine: &FineRows) ->
 
 // The members of the present rows, in table order, from the output's start. A struct's members follow as the rows do.
 // For this crate's own writer.
-pub fn put_rows(out: &mut [u8], held: &[usize; 64], fine: &FineRows)
+pub(crate) fn put_rows(out: &mut [u8], held: &[usize; 64], fine: &FineRows)
     requires { Holds fine.now held.now × (length (bytes_at fine.now 0) ≤ length out.old) }
     ensures { out.new ≡ sets out.old 0 (bytes_at fine.now 0) }
 {

@@ -144,7 +144,11 @@ fn up_after(cell: Cell, r: Row, upto: u64) -> u64
 }
 
 // The rows in table order, as many as the table has: the first that is not fine decides. For this crate's own writer.
-pub fn judge_rows(rows: &[Row; 64], table: &CheckedTable, content: &[u8]) -> Result<(), Verdict>
+pub(crate) fn judge_rows(
+    rows: &[Row; 64],
+    table: &CheckedTable,
+    content: &[u8],
+) -> Result<(), Verdict>
     ensures { result ≡ judging_is (judged_of content.now (table_in table.now.count table.now.cells) rows.now) }
 {
     let mut upto: u64 = 1;

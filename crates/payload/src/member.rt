@@ -47,7 +47,7 @@ fn taken(n: usize, from: usize, end: usize) -> Result<Span, Refusal>
 }
 
 // The content behind a tag, in what is left of a level there. For this crate's own walk.
-pub fn content_in(bytes: &[u8], width: usize, wire: u64, rest: Span) -> Result<Span, Refusal>
+pub(crate) fn content_in(bytes: &[u8], width: usize, wire: u64, rest: Span) -> Result<Span, Refusal>
     requires { (rest.from ≤ rest.end) × (rest.end ≤ length bytes.now) × (width ≤ 4) }
     ensures is { body_in bytes.now rest.end result
         ≡ body_of width wire rest.from (slice rest.from rest.end bytes.now) }
@@ -117,7 +117,7 @@ fn array_shown(cell: Cell, content: Span) -> Result<Row, Refusal>
 }
 
 // The row that a known member's content shows; a struct's is its members'. For this crate's own walk.
-pub fn shown(bytes: &[u8], cell: Cell, content: Span) -> Result<Row, Refusal>
+pub(crate) fn shown(bytes: &[u8], cell: Cell, content: Span) -> Result<Row, Refusal>
     requires { (kind_in cell.bits < struct) × (content.from ≤ content.end) × (content.end ≤ length bytes.now)
         × (kind_in cell.bits < string → content.end ≡ content.from + size_of (kind_in cell.bits)) }
     ensures { RowShown bytes.now (row_in cell.bits) content result }

@@ -21,8 +21,8 @@ fn half_of(k: usize) -> u64
     }
 }
 
-// The row of a number of a kind 1 to 11. A boolean is its byte's lowest bit.
-pub fn number_row(k: usize, v: u64) -> Row
+// The row of a number of a kind 1 to 11. A boolean is its byte's lowest bit. For this crate's own walk, which has looked at the kind.
+pub(crate) fn number_row(k: usize, v: u64) -> Row
     requires { (0 < k) × (k < string) × (v < 256 ^ size_of k) }
     ensures { result ≡ number_row k v }
 {

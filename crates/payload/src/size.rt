@@ -67,7 +67,7 @@ fn count_in(sums: &mut [usize; 5], level: u64, own: usize)
 // The bytes of the payload, where each content fits its length field; then `held` has what each struct holds. The sums are those of the
 // bytes below each level, as far as the rows in front have passed. `held` is an array beside the rows, for there is no heap. For this
 // crate's own writer.
-pub fn measure(fine: &FineRows, held: &mut [usize; 64]) -> Result<usize, Verdict>
+pub(crate) fn measure(fine: &FineRows, held: &mut [usize; 64]) -> Result<usize, Verdict>
     requires { length held.old ≡ 64 }
     ensures answer { result ≡ measured_is (wide_under fine.now.table.now.width 1 (parts_at fine.now 0)) (length (bytes_at fine.now 0)) }
     ensures holds { IfOk result (λ total. Holds fine.now held.new) }

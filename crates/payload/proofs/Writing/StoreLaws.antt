@@ -1,11 +1,14 @@
 -- Stores in the output: a string's, and a row's before those of the rows after it.
 -- Assumes nothing.
-use mathlib.Core.Path.{◌≡◌, sym, ap, ◌∙◌}
+use mathlib.Core.Path.{◌≡◌, refl, sym, ap, ◌∙◌}
+use mathlib.Core.Bool.{true}
+use mathlib.Core.Logic.{◌⊎◌, inl, inr}
 use mathlib.Core.List.{List, [], ◌∷◌, ◌++◌, append_assoc}
 use Prim.Native.Nat.{ℕ, suc, ◌+◌, ◌<◌, ◌≤◌}
 use native.Mathlib.Omega.{arith}
 use lib.ListN.{length, set, length-append}
 use lib.Seq.{sets}
+use lib.Ieee.{Float}
 use borrow.Author.Tests.{le-ltb, ltb-false, eqb-true}
 use Rattle.wire.specs.Number.{big, number_bytes}
 use Rattle.wire.specs.Kind.{size_of, struct}
@@ -14,14 +17,15 @@ use Rattle.wire.specs.Part.{run_of}
 use Rattle.wire.proofs.StoreLaws.{sets_append}
 use Rattle.payload.specs.declared.fine.FineRows.{FineRows}
 use Rattle.payload.specs.declared.row.Value.{Value}
-use Rattle.payload.specs.declared.row.Value.TheVariants.{Bytes, Members}
+use Rattle.payload.specs.declared.row.Value.TheVariants.{Float32, Float64, Bytes, Members}
 use Rattle.payload.specs.Cells.{level_in, kind_in, row_in}
+use Rattle.payload.specs.Judging.{float_fits}
 use Rattle.payload.specs.Writing.{leaf, put_of}
 use Rattle.payload.specs.Parts.{under}
 use Rattle.payload.specs.Sizes.{content_len, own_len}
 use Rattle.payload.specs.Fine.{cell_at, value_at, bytes_at, piece_at, held_at, number_member, field_start, run_content}
 use Rattle.payload.proofs.Writing.FineLaws.{Fitting, parts_end, parts_more, row_at, fits_at}
-use Rattle.payload.proofs.Writing.SizeLaws.{length_run, run_kind, length_content, tag_number, tag_field, number_piece, run_piece, branch_piece}
+use Rattle.payload.proofs.Writing.SizeLaws.{length_run, float_kind, run_kind, length_content, tag_number, tag_field, number_piece, run_piece, branch_piece}
 use Rattle.payload.proofs.Writing.MeasureLaws.{piece_length}
 
 -- mark, text, terminator
@@ -81,6 +85,33 @@ module _ (f : FineRows) (i : ℕ) (h : i < f.table.now.count) (u : Value) (e : (
       let t = tag_number f.table.now.width f.wire f.wires (row_in (cell_at f i)) r k in
       let q = number_piece f.table.now.width f.wire f.wires (row_in (cell_at f i)) r (number_bytes big (size_of (kind_in (cell_at f i))) num) n k in
       rw (e, p, q, t)
+
+-- ---- a float's member, whichever its width
+
+-- a row that shows a float
+abbrev pub ShowsFloat : FineRows → ℕ → Type 0
+ShowsFloat f i = ((x : Float) × (value_at f i).value ≡ Float32 x) ⊎ ((x : Float) × (value_at f i).value ≡ Float64 x)
+
+-- what the store of its member asks and leaves
+pub record FloatStored (f : FineRows) (i : ℕ) : Type 0 where
+  pub kind : kind_in (cell_at f i) < 12
+  pub long : own_len f.table.now.width (kind_in (cell_at f i)) (value_at f i).value ≡ 2 + size_of (kind_in (cell_at f i))
+  pub stored : (n : ℕ) → number_member (cell_at f i) (value_at f i).bits ≡ piece_at f i n
+
+module _ (f : FineRows) (i : ℕ) (h : i < f.table.now.count) where
+  float_by : (own : ℕ) (u : Value) → own < 12 → (value_at f i).value ≡ u
+      → float_fits own (kind_in (cell_at f i)) (value_at f i).bits ≡ true
+      → own_len f.table.now.width (kind_in (cell_at f i)) u ≡ 2 + size_of (kind_in (cell_at f i))
+      → put_of f.content.now (row_in (cell_at f i)) u (value_at f i).bits ≡ leaf (number_bytes big (size_of (kind_in (cell_at f i))) (value_at f i).bits)
+      → FloatStored f i
+  float_by own u b e fits l p =
+      let k = float_kind f.content.now (row_in (cell_at f i)) own (value_at f i).bits b fits in
+      record { kind = k; long = rw e l; stored = number_stored f i h u e k (value_at f i).bits p }
+
+  pub float_stored : ShowsFloat f i → FloatStored f i
+  unfolding put_of
+  float_stored (inl p) = float_by 10 (Float32 p.0) (omega arith) p.1 (fits_now f i h (Float32 p.0) p.1).fits refl refl
+  float_stored (inr p) = float_by 11 (Float64 p.0) (omega arith) p.1 (fits_now f i h (Float64 p.0) p.1).fits refl refl
 
 pub bytes_stored : (f : FineRows) (i : ℕ) (h : i < f.table.now.count) (place len : ℕ) → (value_at f i).value ≡ Bytes place len → (n : ℕ)
     → field_start f (cell_at f i) (content_len (kind_in (cell_at f i)) (Bytes place len) 0) ++ run_content f (cell_at f i) place len ≡ piece_at f i n

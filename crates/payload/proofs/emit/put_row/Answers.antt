@@ -1,17 +1,17 @@
 -- `payload::emit::put_row` meets its contract, value by value.
-use Rattle.std.proofs.Common.{◌+◌, length, refl, sym, ap, arith}
+use Rattle.std.proofs.Common.{◌+◌, length, refl, sym, ap}
 use lib.Seq.{sets}
 use mir.Facts.{to_z-of_z}
 use borrow.Author.Tests.{ltb-false}
 use Rattle.wire.specs.Number.{twos_of}
-use Rattle.payload.specs.declared.row.Value.TheVariants.{Unsigned, Signed, Float32, Float64, Bytes}
+use Rattle.payload.specs.declared.row.Value.TheVariants.{Unsigned, Signed, Bytes}
 use Rattle.payload.specs.Cells.{kind_in, row_in}
 use Rattle.payload.specs.Writing.{leaf, put_of}
 use Rattle.payload.specs.Parts.{piece}
-use Rattle.payload.specs.Fine.{cell_at, value_at}
+use Rattle.payload.specs.Fine.{cell_at}
 use Rattle.payload.proofs.Writing.ValueLaws.{signed_small}
-use Rattle.payload.proofs.Writing.SizeLaws.{unsigned_kind, signed_kind, signed_bytes, float_kind}
-use Rattle.payload.proofs.Writing.StoreLaws.{fits_now, number_stored, bytes_stored, members_stored}
+use Rattle.payload.proofs.Writing.SizeLaws.{unsigned_kind, signed_kind, signed_bytes}
+use Rattle.payload.proofs.Writing.StoreLaws.{fits_now, number_stored, float_stored, bytes_stored, members_stored}
 use Rattle.payload.proofs.emit.put_row.Goals as goal
 
 pub returns-in-Absent-clause-output : goal.returns-in-Absent-clause-output
@@ -64,43 +64,15 @@ returns-in-Signed-clause-output c =
 
 pub put_number-requires-in-Float32 : goal.put_number-requires-in-Float32
 put_number-requires-in-Float32 c =
-    let f = c.args.fine.now in
-    let i = c.args.i in
-    let e = c.in-Float32.is in
-    let k = fits_now f i c.requires.0 (Float32 c.in-Float32.field-0) e in (
-      rw c.cell-cell.ensures (float_kind f.content.now (row_in (cell_at f i)) 10 (value_at f i).bits (omega arith) k.fits),
-      rw c.cell-cell.ensures (rw e at c.requires.1),
+    let k = float_stored c.args.fine.now c.args.i c.requires.0 c.in-Float32.is in (
+      rw c.cell-cell.ensures k.kind,
+      rw c.cell-cell.ensures (rw k.long at c.requires.1),
     )
 
 pub returns-in-Float32-clause-output : goal.returns-in-Float32-clause-output
-unfolding put_of
 returns-in-Float32-clause-output c =
-    let f = c.args.fine.now in
-    let i = c.args.i in
-    let k = fits_now f i c.requires.0 (Float32 c.in-Float32.field-0) c.in-Float32.is in
     rw (c.put_number-in-Float32.ensures.output, c.cell-cell.ensures)
-    (ap (sets c.args.out.now c.args.at) (number_stored f i c.requires.0 (Float32 c.in-Float32.field-0) c.in-Float32.is
-    (float_kind f.content.now (row_in (cell_at f i)) 10 (value_at f i).bits (omega arith) k.fits) (value_at f i).bits refl c.args.held))
-
-pub put_number-requires-in-Float64 : goal.put_number-requires-in-Float64
-put_number-requires-in-Float64 c =
-    let f = c.args.fine.now in
-    let i = c.args.i in
-    let e = c.in-Float64.is in
-    let k = fits_now f i c.requires.0 (Float64 c.in-Float64.field-0) e in (
-      rw c.cell-cell.ensures (float_kind f.content.now (row_in (cell_at f i)) 11 (value_at f i).bits (omega arith) k.fits),
-      rw c.cell-cell.ensures (rw e at c.requires.1),
-    )
-
-pub returns-in-Float64-clause-output : goal.returns-in-Float64-clause-output
-unfolding put_of
-returns-in-Float64-clause-output c =
-    let f = c.args.fine.now in
-    let i = c.args.i in
-    let k = fits_now f i c.requires.0 (Float64 c.in-Float64.field-0) c.in-Float64.is in
-    rw (c.put_number-in-Float64.ensures.output, c.cell-cell.ensures)
-    (ap (sets c.args.out.now c.args.at) (number_stored f i c.requires.0 (Float64 c.in-Float64.field-0) c.in-Float64.is
-    (float_kind f.content.now (row_in (cell_at f i)) 11 (value_at f i).bits (omega arith) k.fits) (value_at f i).bits refl c.args.held))
+    (ap (sets c.args.out.now c.args.at) ((float_stored c.args.fine.now c.args.i c.requires.0 c.in-Float32.is).stored c.args.held))
 
 pub put_bytes-requires : goal.put_bytes-requires
 put_bytes-requires c =
