@@ -74,6 +74,7 @@ fn check_header(d: &[u8], e: Expected) -> Result<(), Verdict>
 }
 
 // The payload's part of a message that ends at `end`: none is given where the header is refused, or the payload for its size.
+#[tactic(auto, using(crate::proofs::HeaderLaws::shown_given), unfolding(crate::specs::Reading::payload_shown))]
 fn payload_shown(why: Verdict, end: usize) -> Part
     requires { 16 ≤ end }
     ensures { result ≡ payload_shown why end }

@@ -126,11 +126,14 @@ impl Walker<'_> {
         let content = member::content_in(self.bytes, self.table.width, wire, rest)?;
         if kind == kind::STRUCT {
             self.rows[row] = Row::plain(Value::Members);
-            self.read_level(self.inner(level.number, row, content))?;
+            let members = self.inner(level.number, row, content);
+            self.read_level(members)?;
+            Ok(members.span.end)
         } else {
-            self.rows[row] = member::shown(self.bytes, cell, content)?;
+            let shown = member::shown(self.bytes, cell, content)?;
+            self.rows[row] = shown;
+            Ok(content.end)
         }
-        Ok(content.end)
     }
 
     // The member at a place: its end. An unknown one is skipped.

@@ -41,8 +41,8 @@ pub struct Table {
     pub fixed: bool,
 }
 
-// A checked type table: its rows as cells, one number each, how many rows it has, and the width of its length fields. A value of this type
-// keeps the table's rules, so that readers and writers that are handed one need not ask. An array and a count, for there is no heap.
+// A checked type table: its rows as cells, one number each, how many rows it has, and the width of its length fields. What `of` gives are a
+// table's that keeps its rules; each value has what readers and writers need. An array and a count, for there is no heap.
 #[derive(Clone, Copy)]
 pub struct CheckedTable {
     pub cells: [u64; 64],
@@ -129,12 +129,7 @@ impl CheckedTable {
         requires { first ≤ self.now.count }
         ensures { Stops self.now.cells first result self.now.count level }
     {
-        for i in first..self.count {
-            if level_in(self.cells[i]) < level {
-                return i;
-            }
-        }
-        self.count
+        level_end(&self.cells, first, self.count, level)
     }
 
     // The row of a Data ID among the direct members of the level whose rows are those from `first` to `stop`.
@@ -143,17 +138,7 @@ impl CheckedTable {
         ensures is { result ≡ search_at self.now.count self.now.cells level ident first }
         ensures within { Within self.now.cells first self.now.count level result }
     {
-        let key = ident * 16 + level;
-        let mut at = first;
-        // Four rows at a time: a search of four is unrolled, and takes 5 instructions for a row; one search of all takes 9, as measured.
-        while at + 4 <= stop {
-            if let Some(n) = first_with(&self.cells[at..at + 4], key) {
-                return Some(at + n);
-            }
-            at += 4;
-        }
-        let n = first_with(&self.cells[at..stop], key)?;
-        Some(at + n)
+        find_in(&self.cells, first, stop, level, ident)
     }
 }
 
@@ -208,6 +193,47 @@ fn first_with(cells: &[u64], key: u64) -> Option<usize>
     ensures before { (k : ℕ) → k < unwrap_or result (length cells.now) → get_or cells.now k 0 / 512 ≢ key }
 {
     cells.iter().position(|cell| *cell / 512 == key)
+}
+
+// Where the rows of a level end that begin at `first`: at the first row above the level, or with the table.
+// For this crate's own walk.
+pub fn level_end(cells: &[u64; 64], first: usize, count: usize, level: u64) -> usize
+    requires { (first ≤ count) × (count ≤ 64) }
+    ensures { Stops cells.now first result count level }
+{
+    for i in first..count {
+        if level_in(cells[i]) < level {
+            return i;
+        }
+    }
+    count
+}
+
+// The row of a Data ID among the direct members of the level whose rows are those from `first` to `stop`.
+// For this crate's own walk.
+pub fn find_in(
+    cells: &[u64; 64],
+    first: usize,
+    stop: usize,
+    level: u64,
+    ident: u64,
+) -> Option<usize>
+    requires { (first ≤ stop) × (stop ≤ 64) × (level < 16) × (ident < 4096)
+        × ((i : ℕ) → first ≤ i → i < stop → level ≤ level_in (get_or cells.now i 0)) }
+    ensures is { result ≡ search_at stop cells.now level ident first }
+    ensures within { Within cells.now first stop level result }
+{
+    let key = ident * 16 + level;
+    let mut at = first;
+    // Four rows at a time: a search of four is unrolled, and takes 5 instructions for a row; one search of all takes 9, as measured.
+    while at + 4 <= stop {
+        if let Some(n) = first_with(&cells[at..at + 4], key) {
+            return Some(at + n);
+        }
+        at += 4;
+    }
+    let n = first_with(&cells[at..stop], key)?;
+    Some(at + n)
 }
 
 // Whether a row of the same level and Data ID comes behind a row, before its level ends.

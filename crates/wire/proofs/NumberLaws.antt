@@ -201,6 +201,10 @@ module _ (p : List ℕ) (at w : ℕ) (h : at + w ≤ length p) where
   pub run_byte : (i : ℕ) → i < w → get_or (take (at + w - at) (drop at p)) i 0 ≡ get_or p (at + i) 0
   run_byte i k = get_or-take (at + w - at) (drop at p) i 0 (omega arith) ∙ get_or-drop at p i 0
 
+  -- of a byte that was read at a place which is i
+  pub run_read : (i : ℕ) {j b : ℕ} → b ≡ get_or (take (at + w - at) (drop at p)) j 0 → j ≡ i → i < w → b ≡ get_or p (at + i) 0
+  run_read i e s k = e ∙ ap (λ (n : ℕ). get_or (take (at + w - at) (drop at p)) n 0) s ∙ run_byte i k
+
 module _ (p : List ℕ) (at i : ℕ) where
   slice_snoc : at + i < length p → slice at (at + suc i) p ≡ slice at (at + i) p ++ (get_or p (at + i) 0 ∷ [])
   slice_snoc h =

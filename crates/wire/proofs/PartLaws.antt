@@ -63,9 +63,9 @@ module _ (d : List ℕ) (p : Part) where
 
 -- what `get` gives from a place on and up to a place, with no bytes where it gives none
 module _ (l : List ℕ) (n : ℕ) (e : Bor (List ℕ)) (z : e.now ≡ []) where
-  pub got_from : (r : Option (Bor (List ℕ))) → IsGetRangeResult l n (length l) r → (unwrap_or r e).now ≡ drop n l
-  got_from None g = z ∙ sym (drop_all n l (omega arith))
-  got_from (Some x) g = g.0.2 ∙ between_to_end l n (length l) (omega arith)
+  pub got_from : {end : ℕ} (r : Option (Bor (List ℕ))) → IsGetRangeResult l n end r → end ≡ length l → (unwrap_or r e).now ≡ drop n l
+  got_from {end} None g h = z ∙ sym (drop_all n l (omega arith))
+  got_from {end} (Some x) g h = g.0.2 ∙ between_to_end l n end (omega arith)
 
   pub got_upto : (r : Option (Bor (List ℕ))) → IsGetRangeResult l 0 n r → (unwrap_or r e).now ≡ pick (leb n (length l)) (take n l) []
   got_upto None g = rw (lt-leb n (length l) (omega arith)) z

@@ -1,5 +1,5 @@
 -- Strings (document 01, Members): EF BB BF, then text, then one 00.
-use Rattle.std.specs.Prelude.{ℕ, zero, suc, ◌-◌, ◌≤◌, Bool, false, List, [], ◌∷◌, ◌++◌, length, take, drop, get_or, leb, ltb, eqb}
+use Rattle.std.specs.Prelude.{ℕ, zero, suc, ◌-◌, ◌≤◌, Bool, false, Option, Some, None, List, [], ◌∷◌, ◌++◌, length, take, drop, get_or, leb, ltb, eqb}
 use Rattle.wire.specs.Choose.{pick, and}
 
 -- How many bytes follow a first byte: a byte below 0x80 stands alone, 0xC2 to 0xDF is followed by one, 0xE0 to 0xEF by two, 0xF0 to 0xF4
@@ -13,6 +13,10 @@ following x =
     (pick (ltb x 0xF0) 2
     (pick (ltb x 0xF5) 3
     4)))))
+
+-- the same number, or none where no text has the byte
+abbrev pub following_in : ℕ → Option ℕ
+following_in x = pick (ltb (following x) 4) (Some (following x)) None
 
 -- the bytes that follow are 0x80 to 0xBF
 unfoldable pub follows : ℕ → Bool

@@ -12,9 +12,10 @@ pub fn read_number(p: &[u8], at: usize, w: usize) -> u64
     requires { (at + w ≤ length p.now) × (w ≤ 8) }
     ensures { (result ≡ number_of big (slice at (at + w) p.now)) × (result < 256 ^ w) }
 {
+    let run = &p[at..at + w];
     let mut v: u64 = 0;
-    for b in &p[at..at + w] {
-        v = v * 256 + u64::from(*b);
+    for i in 0..w {
+        v = v * 256 + u64::from(run[i]);
     }
     v
 }

@@ -23,5 +23,8 @@ pub fn put_run(out: &mut [u8], at: usize, from: &[u8], place: usize, len: usize)
     requires { (at + len ≤ length out.old) × (place + len ≤ length from.now) }
     ensures { out.new ≡ sets out.old at (run_of from.now place len) }
 {
-    out[at..at + len].copy_from_slice(&from[place..place + len]);
+    // Byte by byte: copy_from_slice calls memmove, a name that the static library would need from outside for this alone.
+    for i in 0..len {
+        out[at + i] = from[place + i];
+    }
 }

@@ -1,11 +1,12 @@
 // Strings: whether bytes are text, and whether a content is a string.
 
 ghost use Rattle.std.specs.Prelude.{◌≡◌, ◌≤◌, ◌<◌, ◌∷◌, false, length, eqb, unwrap_or, MatchOption, IfSome};
-ghost use Rattle.wire.specs.Text.{following, follows, text_fits, string_fits};
+ghost use Rattle.wire.specs.Text.{following, following_in, follows, text_fits, string_fits};
 
 // How many bytes follow a first byte; none: no text has it there.
 #[tactic(auto, unfolding(crate::specs::Text::following))]
 pub fn following_of(b: u8) -> Option<usize>
+    ensures is { result ≡ following_in b }
     ensures number { unwrap_or result 4 ≡ following b }
     ensures few { IfSome result (λ n. n < 4) }
 {

@@ -5,17 +5,17 @@ use Prim.Native.Nat.{ℕ, zero, suc, ◌+◌, ◌-◌, ◌*◌, ◌/◌, ◌%◌
 use native.Mathlib.Omega.{arith}
 use mathlib.Core.Bool.{Bool, true, false}
 use mathlib.Core.Option.{Option as Place, none, some}
-use Rattle.std.specs.Prelude.{Some, None, is_some, not}
+use Rattle.std.specs.Prelude.{Option, Some, None, is_some, not}
 use mathlib.Core.List.{List, [], ◌∷◌}
 use lib.ListN.{length, take, drop, get_or, length-drop}
 use lib.Seq.{drop-nil, get_or-take, get_or-drop, take_all, length-take-le}
 use Rattle.std.proofs.lemmas.List.{length-take}
 use lib.Dec.{ltb, eqb}
-use borrow.Author.Tests.{lt-ltb, le-ltb, eq-eqb, eqb-true, ltb-true, ltb-false}
+use borrow.Author.Tests.{lt-ltb, le-ltb, eq-eqb, eqb-true, eqb-false, ltb-true, ltb-false}
 use Rattle.wire.specs.Choose.{pick, and}
 use Rattle.payload.specs.declared.table.TypeRow.{TypeRow}
 use Rattle.payload.specs.Table.{later, find, is_none, idents_differ}
-use Rattle.payload.specs.Cells.{bit_of, cell_of, ident_in, level_in, row_in, rows_in, table_in, FineRow, found_at, search_at, Stops}
+use Rattle.payload.specs.Cells.{bit_of, cell_of, ident_in, level_in, row_in, rows_in, table_in, FineRow, found_at, search_at, Within, Stops}
 
 -- ---- the cell of a row
 
@@ -163,6 +163,31 @@ search_stops cells first stop n l x small s = go (ltb stop n) refl
     go : (b : Bool) → ltb stop n ≡ b → search_at n cells l x stop ≡ None
     go true e = find_above cells n stop l x (ltb-true stop n e) small (s.shut (ltb-true stop n e))
     go false e = find_end cells n stop l x (ltb-false stop n e)
+
+-- the rows of a level are enough
+module _ (cells : List ℕ) (first stop count l x : ℕ) (small : l < 16) (s : Stops cells first stop count l) where
+  rows_enough : (k i : ℕ) → i + k ≡ stop → first ≤ i → search_at stop cells l x i ≡ search_at count cells l x i
+  rows_enough zero i e a =
+      let z : i ≡ stop = omega arith in
+      rw z (find_end cells stop stop l x (omega arith) ∙ sym (search_stops cells first stop count l x small s))
+  rows_enough (suc k) i e a = go (eqb (get_or cells i 0 / 512) (x * 16 + l)) refl (rows_enough k (suc i) (omega arith) (omega arith))
+    where
+      go : (b : Bool) → eqb (get_or cells i 0 / 512) (x * 16 + l) ≡ b → search_at stop cells l x (suc i) ≡ search_at count cells l x (suc i)
+          → search_at stop cells l x i ≡ search_at count cells l x i
+      go true d later =
+          let hit = eqb-true (get_or cells i 0 / 512) (x * 16 + l) d in
+          find_this cells stop i l x (omega arith) small hit ∙ sym (find_this cells count i l x (omega (arith, s.to)) small hit)
+      go false d later =
+          let ne = eqb-false (get_or cells i 0 / 512) (x * 16 + l) d in
+          let lev = s.deep i a (omega arith) in
+          find_next cells stop i l x (omega arith) small ne lev ∙ later ∙ sym (find_next cells count i l x (omega (arith, s.to)) small ne lev)
+
+  pub level_search : search_at stop cells l x first ≡ search_at count cells l x first
+  level_search = rows_enough (stop - first) first (omega (arith, s.from)) (omega arith)
+
+  pub level_within : (f : Option ℕ) → Within cells first stop l f → Within cells first count l f
+  level_within (Some i) w = (w.0, omega (arith, w.1, s.to), w.2)
+  level_within None w = tt
 
 -- ---- parts of the cells
 

@@ -5,5 +5,5 @@ use lib.Seq.{slice}
 use Rattle.wire.specs.Number.{big, number_of}
 use Rattle.wire.proofs.number.read_number.Given as goal
 
-abbrev pub invariant-loop-b : goal.invariant-loop-b
-invariant-loop-b l = l.v ≡ number_of big (slice l.at (l.at + l.b-index) l.p)
+abbrev pub invariant-loop-i : goal.invariant-loop-i
+invariant-loop-i l = l.v ≡ number_of big (slice l.at (l.at + l.i) l.p)

@@ -1,5 +1,6 @@
 -- `wire::part::part_of` meets its contract for every part.
 use mathlib.Core.Path.{refl, ap, ◌∙◌}
+use native.Mathlib.Omega.{arith}
 use Rattle.std.proofs.Common.{Bor}
 use mathlib.Core.List.{List}
 use Prim.Native.Nat.{ℕ}
@@ -11,5 +12,5 @@ returns c =
     let a = c.args in
     let now = λ (x : Bor (List ℕ)). x.now in
     got_part a.d.now a.p c.unwrap_or.result.now c.unwrap_or-2.result.now
-    (ap now c.unwrap_or.ensures ∙ got_from a.d.now a.p.at _ refl c.get.result c.get.ensures.lookup)
+    (ap now c.unwrap_or.ensures ∙ got_from a.d.now a.p.at _ refl c.get.result c.get.ensures.lookup (omega arith))
     (ap now c.unwrap_or-2.ensures ∙ got_upto c.unwrap_or.result.now a.p.len _ refl c.get-2.result c.get-2.ensures.lookup)

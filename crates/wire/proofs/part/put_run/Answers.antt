@@ -1,9 +1,12 @@
--- `wire::part::put_run` meets its contract.
 use native.Mathlib.Omega.{arith}
+use lib.ListN.{length-set}
 use Rattle.wire.proofs.StoreLaws.{run_store}
 use Rattle.wire.proofs.part.put_run.Goals as goal
 
-pub returns : goal.returns
-returns c =
+pub loop-i-preserved : goal.loop-i-preserved
+loop-i-preserved c =
     let a = c.args in
-    run_store a.out.now a.from.now _ a.at a.place a.len (omega arith) (omega arith) c.copy_from_slice.ensures.after
+    let t = c.loop-i in (
+      rw t.invariant.0 (run_store a.out.now a.from.now a.at a.place t.i (omega arith)),
+      rw length-set t.invariant.1,
+    )

@@ -7,6 +7,7 @@ use Rattle.std.proofs.lemmas.Result.{err_from_is_err_and}
 use Rattle.wire.specs.Kind.{wire_fits}
 use Rattle.wire.proofs.KindLaws.{number_fixed}
 use Rattle.payload.specs.Cells.{kind_in}
+use Rattle.payload.specs.declared.read.Level.{Level}
 use Rattle.payload.proofs.Walking.ContentLaws.{fixed_sized}
 use Rattle.payload.proofs.Walking.LevelLaws.{way_more, way_refused, way_missing, way_closed}
 use Rattle.payload.proofs.Walking.MemberLaws.{known_wire, known_twice, known_cut, known_unshown, known_shown, known_entered, known_stuck, member_cut, member_unread, member_skipped, member_known}
@@ -42,7 +43,7 @@ read_known-returns-in_err-read_level t c =
     let p = err_from_is_err_and c.from_residual-in_err-read_level.result c.from_residual-in_err-read_level.ensures.1 in
     rw (p.1, p.2) (known_stuck _ _ _ q.0 _ _ q.2 q.1 (fits _ (c.kind-kind.ensures ∙ ap kind_in c.cell-cell.ensures) c.wire_fits.ensures c.if-not-wire_fits.false)
     (sym c.is_absent.ensures ∙ c.if-not-is_absent.false) _ c.in_ok-content.ensures.is c.in_ok-content.ensures.inside
-    (sym (c.kind-kind.ensures ∙ ap kind_in c.cell-cell.ensures) ∙ c.if-kind-eq-STRUCT.true) q.3 _ c.inner.ensures.is c.inner.ensures.stops _ _ (rw c.plain.ensures at c.read_level.ensures)
+    (sym (c.kind-kind.ensures ∙ ap kind_in c.cell-cell.ensures) ∙ c.if-kind-eq-STRUCT.true) q.3 _ c.inner-members.ensures.is c.inner-members.ensures.stops _ _ (rw c.plain.ensures at c.read_level.ensures)
     _ c.in_err-read_level.was)
 
 pub read_known-shown-requires : goal.read_known-shown-requires
@@ -58,26 +59,27 @@ read_known-shown-requires t c =
           fixed_sized _ _ _ _ d.0 _ _ _ _ c.in_ok-content.ensures.is ∙ rw d.1,
     )
 
-pub read_known-returns-in_err-self : goal.read_known-returns-in_err-self
-read_known-returns-in_err-self t c =
+pub read_known-returns-in_err-shown : goal.read_known-returns-in_err-shown
+read_known-returns-in_err-shown t c =
     let q = c.requires in
-    let p = err_from_is_err_and c.from_residual-in_err-self.result c.from_residual-in_err-self.ensures.1 in
+    let p = err_from_is_err_and c.from_residual-in_err-shown.result c.from_residual-in_err-shown.ensures.1 in
     rw (p.1, p.2) (known_unshown _ _ _ q.0 _ _ q.2 q.1 (fits _ (c.kind-kind.ensures ∙ ap kind_in c.cell-cell.ensures) c.wire_fits.ensures c.if-not-wire_fits.false)
-    (sym c.is_absent.ensures ∙ c.if-not-is_absent.false) _ c.in_ok-content.ensures.is c.in_ok-content.ensures.inside _ (rw c.cell-cell.ensures at c.shown.ensures) _ c.in_err-self.was)
+    (sym c.is_absent.ensures ∙ c.if-not-is_absent.false) _ c.in_ok-content.ensures.is c.in_ok-content.ensures.inside _ (rw c.cell-cell.ensures at c.shown.ensures) _ c.in_err-shown.was)
 
 pub read_known-returns-in_ok-read_level : goal.read_known-returns-in_ok-read_level
 read_known-returns-in_ok-read_level t c =
     let q = c.requires in
-    known_entered _ _ _ q.0 _ _ q.2 q.1 (fits _ (c.kind-kind.ensures ∙ ap kind_in c.cell-cell.ensures) c.wire_fits.ensures c.if-not-wire_fits.false)
+    rw (ap (λ (l : Level). l.span.end) c.inner-members.ensures.is)
+    (known_entered _ _ _ q.0 _ _ q.2 q.1 (fits _ (c.kind-kind.ensures ∙ ap kind_in c.cell-cell.ensures) c.wire_fits.ensures c.if-not-wire_fits.false)
     (sym c.is_absent.ensures ∙ c.if-not-is_absent.false) _ c.in_ok-content.ensures.is c.in_ok-content.ensures.inside
-    (sym (c.kind-kind.ensures ∙ ap kind_in c.cell-cell.ensures) ∙ c.if-kind-eq-STRUCT.true) q.3 _ c.inner.ensures.is c.inner.ensures.stops _ _ (rw c.plain.ensures at c.read_level.ensures)
-    c.in_ok-read_level.was
+    (sym (c.kind-kind.ensures ∙ ap kind_in c.cell-cell.ensures) ∙ c.if-kind-eq-STRUCT.true) q.3 _ c.inner-members.ensures.is c.inner-members.ensures.stops _ _ (rw c.plain.ensures at c.read_level.ensures)
+    c.in_ok-read_level.was)
 
-pub read_known-returns-in_ok-self : goal.read_known-returns-in_ok-self
-read_known-returns-in_ok-self t c =
+pub read_known-returns-in_ok-shown : goal.read_known-returns-in_ok-shown
+read_known-returns-in_ok-shown t c =
     let q = c.requires in
     known_shown _ _ _ q.0 _ _ q.2 q.1 (fits _ (c.kind-kind.ensures ∙ ap kind_in c.cell-cell.ensures) c.wire_fits.ensures c.if-not-wire_fits.false)
-    (sym c.is_absent.ensures ∙ c.if-not-is_absent.false) _ c.in_ok-content.ensures.is c.in_ok-content.ensures.inside _ (rw c.cell-cell.ensures at c.shown.ensures) _ c.in_ok-self.was
+    (sym c.is_absent.ensures ∙ c.if-not-is_absent.false) _ c.in_ok-content.ensures.is c.in_ok-content.ensures.inside _ (rw c.cell-cell.ensures at c.shown.ensures) _ c.in_ok-shown.was
 
 -- ---- a level
 
