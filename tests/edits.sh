@@ -43,13 +43,13 @@ function_at() { # CRATE FILE LINE [GOAL]
         NR > at && !ahead { exit }
         NR == at && /^ *#\[/ { ahead = 1 }
         /^}/ { type = "" }
-        # What implements a trait has a name of both, as rt names it: From<Result<usize, Verdict>> for Kept is KeptFromResultUsizeVerdict.
+        # What implements a trait has a name of both, as rt names it (a f32 is F32): From<Result<usize, Verdict>> for Kept is KeptFromResultUsizeVerdict.
         /^impl/ {
             type = trait = $0
-            sub(/.* for /, "", type); sub(/^impl */, "", type); sub(/[ <{].*/, "", type)
+            sub(/.* for /, "", type); sub(/^impl(<[^>]*>)? */, "", type); sub(/[ <{].*/, "", type)
             if (!sub(/ for .*/, "", trait)) trait = ""
             sub(/^impl(<[^>]*>)? */, "", trait); gsub(/[a-z_0-9]+::/, "", trait); gsub(/&/, " Ref ", trait)
-            type = "::" type
+            type = "::" toupper(substr(type, 1, 1)) substr(type, 2)
             words = split(trait, word, /[^A-Za-z0-9_]+/)
             for (k = 1; k <= words; k++) type = type toupper(substr(word[k], 1, 1)) substr(word[k], 2)
         }

@@ -1,14 +1,19 @@
-// What the program is asked for, by its arguments.
+// What the program is asked for, by its arguments. The command is the first, behind the program's name, and its archive the second.
 
 ghost use Rattle.std.specs.Prelude.{◌≤◌, IfOk};
 
 use super::complaint::{Complaint, Of};
 use super::reason::Asked;
 use super::store::Adding;
-use std::alloc::Global;
-use text::argument::Arguments;
+use std::rt::Env;
+use text::argument::{Argument, Arguments};
 use text::number::NumberError;
 use text::{number, word};
+
+// The first argument that can be the name of a further archive, where each has a line of its own; and of a file that is added.
+pub const ARCHIVES_AT: usize = 2;
+
+pub const FILES_AT: usize = 3;
 
 // What a command's name says of it.
 #[derive(Clone, Copy)]
@@ -36,9 +41,7 @@ pub enum Command<'a> {
     List {
         archive: &'a [u8],
     },
-    Verify {
-        archives: &'a [&'a [u8]],
-    },
+    Verify,
     Message {
         archive: &'a [u8],
         asked: Asked,
@@ -47,41 +50,44 @@ pub enum Command<'a> {
     Add(Adding<'a>),
 }
 
-// The words behind the program's name. One that is too long is none that is cut short.
-pub fn words(alloc: Global, arguments: &Arguments) -> Result<Vec<&[u8]>, Complaint<'_>> {
-    let mut words = Vec::new(alloc);
-    for index in 1..arguments.len() {
-        match arguments.get(index) {
-            Some(word) => words.push(word)?,
-            None => return Err(Complaint::LongArgument { index }),
-        }
-    }
-    Ok(words)
+// The words of a command line that say what is asked: the command's name, its archive and the next, none where it is missing; and how many
+// there are.
+#[derive(Clone, Copy)]
+pub struct Line<'a> {
+    pub name: &'a [u8],
+    pub archive: &'a [u8],
+    pub next: &'a [u8],
+    pub count: usize,
 }
 
-// The command that the words say.
-pub fn parse<'a>(alloc: Global, words: &'a [&'a [u8]]) -> Result<Command<'a>, Complaint<'a>> {
-    let [name, archive, rest @ ..] = words else {
-        return Err(Complaint::Usage);
-    };
-    match (word::named(&NAMES, name), rest) {
-        (Some(Name::List), []) => Ok(Command::List { archive }),
-        (Some(Name::Verify), _) => Ok(Command::Verify {
-            archives: &words[1..],
-        }),
-        (Some(Name::Take { with_line }), [word]) => Ok(Command::Message {
+// An argument. One that is missing has no bytes. A call of its own, so that what it is made in takes no room in its callers' frames.
+#[inline(never)]
+pub fn argument<E: Env>(arguments: &Arguments<'_, E>, i: usize) -> Argument {
+    arguments.get(i).unwrap_or_default()
+}
+
+// The first argument that is too long. It is none that is cut short.
+pub fn long_argument<E: Env>(arguments: &Arguments<'_, E>) -> Option<usize> {
+    (1..arguments.len()).find(|index| arguments.is_longer(*index))
+}
+
+// The command that a line says.
+pub fn parse(line: Line<'_>) -> Result<Command<'_>, Complaint<'_>> {
+    let archive = line.archive;
+    match (word::named(&NAMES, line.name), line.count) {
+        (Some(Name::List), 2) => Ok(Command::List { archive }),
+        (Some(Name::Verify), 2..) => Ok(Command::Verify),
+        (Some(Name::Take { with_line }), 3) => Ok(Command::Message {
             archive,
-            asked: by_number(word)?,
+            asked: by_number(line.next)?,
             with_line,
         }),
-        (Some(Name::Find { with_line }), [word]) => Ok(Command::Message {
+        (Some(Name::Find { with_line }), 3) => Ok(Command::Message {
             archive,
-            asked: by_session(word)?,
+            asked: by_session(line.next)?,
             with_line,
         }),
-        (Some(Name::Add), [_, ..]) => Ok(Command::Add(Adding::new(alloc, archive, rest).of(
-            archive,
-        )?)),
+        (Some(Name::Add), 3..) => Ok(Command::Add(Adding::new(archive).of(archive)?)),
         _ => Err(Complaint::Usage),
     }
 }
@@ -108,21 +114,22 @@ fn number_within(word: &[u8], most: u64) -> Result<u64, Complaint<'_>>
 
 #[cfg(test)]
 mod tests {
-    use super::{Command, parse, words};
-    use std::test::Fail;
+    use super::{Command, Line, long_argument, parse};
     use text::argument::Arguments;
 
     #[test]
-    fn takes_the_words_of_a_command_line(rt: HostRuntime) -> Result<(), Fail> {
-        let arguments = Arguments::new(&rt, rt.alloc())?;
-        assert!(rt; words(rt.alloc(), &arguments).is_ok());
-        Ok(())
+    fn takes_the_words_of_a_command_line(rt: HostRuntime) {
+        assert!(rt; long_argument(&Arguments::new(&rt)).is_none());
     }
 
     #[test]
-    fn understands_adding(rt: HostRuntime) -> Result<(), Fail> {
-        let line = [b"ADD".as_slice(), b"a".as_slice(), b"1".as_slice()];
-        assert!(rt; matches!(parse(rt.alloc(), &line), Ok(Command::Add(_))));
-        Ok(())
+    fn understands_adding(rt: HostRuntime) {
+        let line = Line {
+            name: b"ADD",
+            archive: b"a",
+            next: b"1",
+            count: 3,
+        };
+        assert!(rt; matches!(parse(line), Ok(Command::Add(_))));
     }
 }

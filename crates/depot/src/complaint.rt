@@ -1,7 +1,6 @@
 // What went wrong, and with what. All of it is written here, and goes to standard error.
 
 use super::reason::Refusal;
-use std::alloc::{AllocError, AllocFailed};
 use std::io::Write;
 use std::{fmt, io};
 use text::failure::Reason;
@@ -43,12 +42,6 @@ impl From<io::Error> for Fault {
     }
 }
 
-impl From<AllocError> for Fault {
-    fn from(why: AllocError) -> Fault {
-        Fault::System(io::Error::from(why))
-    }
-}
-
 // What went wrong.
 #[derive(Drop)]
 pub enum Complaint<'a> {
@@ -58,7 +51,6 @@ pub enum Complaint<'a> {
     Over { word: &'a [u8], most: u64 },
     File { name: &'a [u8], fault: Fault },
     Output,
-    Memory,
 }
 
 // An error turned into a complaint about a file.
@@ -75,12 +67,6 @@ impl<T, E: Into<Fault>> Of<T> for Result<T, E> {
                 fault: why.into(),
             }),
         }
-    }
-}
-
-impl<T: Drop> From<AllocFailed<T>> for Complaint<'_> {
-    fn from(_why: AllocFailed<T>) -> Self {
-        Complaint::Memory
     }
 }
 
@@ -114,7 +100,21 @@ impl Complaint<'_> {
                 writeln!(out, ": {fault}")
             }
             Complaint::Output => writeln!(out, "standard output cannot be written"),
-            Complaint::Memory => writeln!(out, "there is no memory for the arguments"),
+        }
+    }
+}
+
+// That something went wrong, which has been said.
+#[derive(Clone, Copy)]
+pub struct Said;
+
+// What came of something; where it went wrong, that is said.
+pub fn or_say<T>(came: Result<T, Complaint<'_>>, err: &mut impl Write) -> Result<T, Said> {
+    match came {
+        Ok(value) => Ok(value),
+        Err(complaint) => {
+            complaint.say(err);
+            Err(Said)
         }
     }
 }

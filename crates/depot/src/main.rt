@@ -22,48 +22,55 @@ mod store;
 mod trailer;
 
 use archive::open::Opening;
-use command::Command;
+use command::{ARCHIVES_AT, Command, Line};
 use complaint::{Complaint, Fault, Of};
 use layout::ROOM;
 use reason::Asked;
 use std::io::Write;
-use std::rt::Files;
+use std::rt::{Env, Files};
 use text::argument::Arguments;
 use text::file::Inputs;
 
-// The bytes of an archive and their opening.
-fn open<R: Files + Input + AllocGlobal>(
+// The bytes of an archive, in a buffer, and their opening.
+fn open<'b, R: Files + Input>(
     inputs: &mut Inputs<'_, R>,
     archive: &[u8],
-) -> Result<(Vec<u8>, Opening), Fault>
-    ensures { IfOk result (λ pair. pair.1 ≡ opening_by (archive_of pair.0.items)) }
+    room: &'b mut [u8],
+) -> Result<(&'b [u8], Opening), Fault>
+    ensures { IfOk result (λ pair. pair.1 ≡ opening_by (archive_of pair.0.now)) }
 {
-    let file = inputs.read_start(archive, ROOM)?;
-    let opening = library::opened(&file)?;
+    let file = inputs.read_start(archive, room)?;
+    let opening = library::opened(file)?;
     Ok((file, opening))
 }
 
-// Writes the lines of an archive.
-fn list<'a, R: Files + Input + AllocGlobal>(
+// Writes the lines of an archive. Each command is a call of its own, so that it has no other's buffers in its frame.
+#[inline(never)]
+fn list<'a, R: Files + Input>(
     rt: &R,
     archive: &'a [u8],
     out: &mut impl Write,
 ) -> Result<(), Complaint<'a>> {
-    let (file, opening) = open(&mut Inputs::new(rt), archive).of(archive)?;
-    show::list(out, &file, opening).map_err(|_| Complaint::Output)
+    let mut room = [0; ROOM];
+    let (file, opening) = open(&mut Inputs::new(rt), archive, &mut room).of(archive)?;
+    show::list(out, file, opening).map_err(|_| Complaint::Output)
 }
 
 // Writes a line of each archive, or says why it has none.
-fn verify<'a, R: Files + Input + AllocGlobal>(
+#[inline(never)]
+fn verify<R: Files + Input, V: Env>(
     rt: &R,
-    archives: &'a [&'a [u8]],
+    arguments: &Arguments<'_, V>,
     out: &mut impl Write,
     err: &mut impl Write,
-) -> Result<(), Complaint<'a>> {
+) -> Result<(), Complaint<'static>> {
     let mut inputs = Inputs::new(rt);
-    for archive in archives {
-        match open(&mut inputs, archive).of(archive) {
-            Ok((file, opening)) => show::verify(out, archive, &file, opening).map_err(
+    let mut room = [0; ROOM];
+    for index in ARCHIVES_AT..arguments.len() {
+        let name = command::argument(arguments, index);
+        let archive = name.as_bytes();
+        match open(&mut inputs, archive, &mut room).of(archive) {
+            Ok((file, opening)) => show::verify(out, archive, file, opening).map_err(
                 |_| Complaint::Output,
             )?,
             Err(complaint) => complaint.say(err),
@@ -73,7 +80,8 @@ fn verify<'a, R: Files + Input + AllocGlobal>(
 }
 
 // Writes the message that is asked for.
-fn take<'a, R: Files + Input + AllocGlobal>(
+#[inline(never)]
+fn take<'a, R: Files + Input>(
     rt: &R,
     archive: &'a [u8],
     asked: Asked,
@@ -81,40 +89,51 @@ fn take<'a, R: Files + Input + AllocGlobal>(
     out: &mut impl Write,
 ) -> Result<(), Complaint<'a>> {
     let mut inputs = Inputs::new(rt);
-    let file = inputs.read_start(archive, ROOM).of(archive)?;
-    let found = library::found(&file, asked).of(archive)?;
-    show::take(out, &file, found, with_line).map_err(|_| Complaint::Output)
+    let mut room = [0; ROOM];
+    let file = inputs.read_start(archive, &mut room).of(archive)?;
+    let found = library::found(file, asked).of(archive)?;
+    show::take(out, file, found, with_line).map_err(|_| Complaint::Output)
 }
 
 // Does what is asked for.
-fn run<'a, R: Files + Input + AllocGlobal>(
+fn run<'a, R: Files + Input, V: Env>(
     rt: &R,
     command: &'a Command<'a>,
+    arguments: &Arguments<'_, V>,
     out: &mut impl Write,
     err: &mut impl Write,
 ) -> Result<(), Complaint<'a>> {
     match command {
         Command::List { archive } => list(rt, archive, out),
-        Command::Verify { archives } => verify(rt, archives, out, err),
+        Command::Verify => verify(rt, arguments, out, err),
         Command::Message {
             archive,
             asked,
             with_line,
         } => take(rt, archive, *asked, *with_line, out),
-        Command::Add(adding) => adding.run(rt, err),
+        Command::Add(adding) => adding.run(rt, arguments, err),
     }
 }
 
-// Does what the words of the command line ask for, and says what goes wrong.
-fn answer<R: Files + Input + AllocGlobal>(
+// Does what the arguments ask for, none of which is too long, and says what goes wrong.
+fn answer<R: Files + Input, V: Env>(
     rt: &R,
-    words: &[&[u8]],
+    arguments: &Arguments<'_, V>,
     out: &mut impl Write,
     err: &mut impl Write,
 ) {
-    match command::parse(rt.alloc(), words) {
+    let name = command::argument(arguments, 1);
+    let archive = command::argument(arguments, 2);
+    let next = command::argument(arguments, 3);
+    let line = Line {
+        name: name.as_bytes(),
+        archive: archive.as_bytes(),
+        next: next.as_bytes(),
+        count: arguments.len().saturating_sub(1),
+    };
+    match command::parse(line) {
         Ok(command) => {
-            if let Err(complaint) = run(rt, &command, out, err) {
+            if let Err(complaint) = run(rt, &command, arguments, out, err) {
                 complaint.say(err);
             }
         }
@@ -124,11 +143,9 @@ fn answer<R: Files + Input + AllocGlobal>(
 
 fn main(rt: HostRuntime) {
     let mut err = rt.stderr();
-    match Arguments::new(&rt, rt.alloc()) {
-        Ok(arguments) => match command::words(rt.alloc(), &arguments) {
-            Ok(words) => answer(&rt, &words, &mut rt.stdout(), &mut err),
-            Err(complaint) => complaint.say(&mut err),
-        },
-        Err(_) => Complaint::Memory.say(&mut err),
+    let arguments = Arguments::new(&rt);
+    match command::long_argument(&arguments) {
+        Some(index) => Complaint::LongArgument { index }.say(&mut err),
+        None => answer(&rt, &arguments, &mut rt.stdout(), &mut err),
     }
 }

@@ -4,76 +4,74 @@
 ghost use Rattle.std.specs.Prelude.{◌≡◌, ◌++◌, ◌≤◌, IfOk, codes, length};
 ghost use Rattle.depot.specs.declared.store.TheConstants.{NAME_MOST};
 
-use super::complaint::{Complaint, Fault, Of};
+use super::command::{self, FILES_AT};
+use super::complaint::{Complaint, Fault, Of, Said, or_say};
 use super::layout::ROOM;
 use super::library;
-use std::alloc::Global;
+use arrayvec::ArrayVec;
 use std::fs::{OpenFile, OpenOptions, Permissions};
 use std::io::{ErrorKind, Input, Read, Write};
 use std::os::unix::fs::{MetadataExt, PermissionsExt};
-use std::rt::Files;
+use std::rt::{Env, Files};
 use std::{fs, io};
+use text::argument::Arguments;
 use text::file::Inputs;
 use text::{file, input};
 
-// An archive in memory that messages are added to: room for the longest, how many bytes its records have, and the mode of its file, where
-// there is one.
+// An archive in a buffer that messages are added to: how many bytes its records have, and the mode of its file, where there is one.
 #[derive(Drop)]
-struct Draft {
-    bytes: Vec<u8>,
+struct Draft<'b> {
+    bytes: &'b mut [u8],
     size: usize,
     mode: Option<u32>,
 }
 
-impl Draft {
+impl<'b> Draft<'b> {
     // The archive of a name; one that is missing has no records.
-    fn open<R: Files + AllocGlobal>(rt: &R, archive: &[u8]) -> Result<Draft, Fault> {
+    fn open<R: Files>(rt: &R, archive: &[u8], bytes: &'b mut [u8]) -> Result<Draft<'b>, Fault> {
         match file::open(rt, archive) {
-            Ok(old) => Draft::read(rt.alloc(), old),
-            Err(why) if why.kind() == ErrorKind::NotFound => Draft::new(
-                Vec::new(rt.alloc()),
-                0,
-                None,
-            ),
+            Ok(old) => Draft::read(old, bytes),
+            Err(why) if why.kind() == ErrorKind::NotFound => Ok(Draft {
+                bytes,
+                size: 0,
+                mode: None,
+            }),
             Err(why) => Err(Fault::System(why)),
         }
     }
 
     // The archive of an open file.
-    fn read<F: Read + OpenFile + Drop>(alloc: Global, old: F) -> Result<Draft, Fault> {
+    fn read<F: Read + OpenFile + Drop>(old: F, bytes: &'b mut [u8]) -> Result<Draft<'b>, Fault> {
         let mode = old.metadata()?.mode();
-        let bytes = input::read_start(alloc, old, ROOM)?;
-        let size = library::opened(&bytes)?.size;
-        Draft::new(bytes, size, Some(mode))
-    }
-
-    // An archive whose records are the first `size` bytes.
-    fn new(mut bytes: Vec<u8>, size: usize, mode: Option<u32>) -> Result<Draft, Fault> {
-        bytes.resize(ROOM, 0)?;
-        Ok(Draft { bytes, size, mode })
+        let size = library::opened(input::read_start(old, &mut *bytes)?)?.size;
+        Ok(Draft {
+            bytes,
+            size,
+            mode: Some(mode),
+        })
     }
 
     // A file's bytes added to the records.
-    fn add<R: Files + Input + AllocGlobal>(
+    fn add<R: Files + Input>(
         &mut self,
         inputs: &mut Inputs<'_, R>,
         name: &[u8],
     ) -> Result<(), Fault> {
-        let message = inputs.read_start(name, ROOM)?;
-        self.size = library::added(&mut self.bytes, self.size, &message)?;
+        let mut room = [0; ROOM];
+        let message = inputs.read_start(name, &mut room)?;
+        self.size = library::added(self.bytes, self.size, message)?;
         Ok(())
     }
 
-    // Index and trailer put behind the records: the bytes are the archive's then.
+    // Index and trailer put behind the records: so many of the bytes are the archive's then.
     fn close(&mut self) -> Result<(), Fault> {
-        let size = library::closed(&mut self.bytes, self.size)?;
-        self.bytes.truncate(size);
+        self.size = library::closed(self.bytes, self.size)?;
         Ok(())
     }
 
     // Writes the closed archive to a file, gives that the mode of the old one and brings all of it to the disk.
     fn store<F: Write + OpenFile>(&self, file: &mut F) -> io::Result<()> {
-        file.write_all(&self.bytes)?;
+        file.write_all(&self.bytes[..self.size.min(self.bytes.len())])?;
         if let Some(mode) = self.mode {
             file.set_permissions(Permissions::from_mode(mode & 0o7777))?;
         }
@@ -81,34 +79,33 @@ impl Draft {
     }
 }
 
-// The longest name of an archive that is added to.
+// The longest name of an archive that is added to, and of its new file.
 const NAME_MOST: usize = 4091;
 
-// What is added to what: the archive's name, that of the new file, and the names of the files.
+const NEW_MOST: usize = 4095;
+
+// What is added to: the archive's name, and that of the new file.
 #[derive(Drop)]
 pub struct Adding<'a> {
     archive: &'a [u8],
-    new: Vec<u8>,
-    files: &'a [&'a [u8]],
+    new: ArrayVec<u8, NEW_MOST>,
 }
 
 impl<'a> Adding<'a> {
     // Adding to an archive that is a file by its name.
-    pub fn new(alloc: Global, archive: &'a [u8], files: &'a [&'a [u8]]) -> Result<Adding<'a>, Fault>
+    pub fn new(archive: &'a [u8]) -> Result<Adding<'a>, Fault>
         ensures name { IfOk result (λ adding. adding.new.items ≡ archive.now ++ codes ".new") }
         ensures most { IfOk result (λ adding. length archive.now ≤ NAME_MOST) }
     {
         if archive.is_empty() || archive == b"-".as_slice() || NAME_MOST < archive.len() {
             return Err(Fault::NoName);
         }
-        let mut new = Vec::new(alloc);
-        new.extend_from_slice(archive)?;
-        new.extend_from_slice(b".new")?;
-        Ok(Adding {
-            archive,
-            new,
-            files,
-        })
+        let mut new = ArrayVec::new();
+        new.try_extend_from_slice(archive)
+            .map_err(|_| Fault::NoName)?;
+        new.try_extend_from_slice(b".new")
+            .map_err(|_| Fault::NoName)?;
+        Ok(Adding { archive, new })
     }
 
     // Makes the new file, where there is none of its name.
@@ -125,19 +122,28 @@ impl<'a> Adding<'a> {
         }
     }
 
-    // Fills the new file with the archive that is there and the files behind its messages, up to the first that is refused.
-    fn fill<R: Files + Input + AllocGlobal>(
+    // Fills the new file with the archive that is there and the files behind its messages, up to the first that is refused. What goes wrong
+    // is said here, where there is the name of its file.
+    fn fill<R: Files + Input, V: Env>(
         &self,
         rt: &R,
+        arguments: &Arguments<'_, V>,
         new: &mut R::File,
-    ) -> Result<(), Complaint<'_>> {
-        let mut draft = Draft::open(rt, self.archive).of(self.archive)?;
+        err: &mut impl Write,
+    ) -> Result<(), Said> {
+        let mut bytes = [0; ROOM];
+        let mut draft = or_say(
+            Draft::open(rt, self.archive, &mut bytes).of(self.archive),
+            err,
+        )?;
         let mut inputs = Inputs::new(rt);
-        for name in self.files {
-            draft.add(&mut inputs, name).of(name)?;
+        for index in FILES_AT..arguments.len() {
+            let argument = command::argument(arguments, index);
+            let name = argument.as_bytes();
+            or_say(draft.add(&mut inputs, name).of(name), err)?;
         }
-        draft.close().of(self.archive)?;
-        draft.store(new).of(&self.new)
+        or_say(draft.close().of(self.archive), err)?;
+        or_say(draft.store(new).of(&self.new), err)
     }
 
     // Gives the new file the archive's name.
@@ -152,21 +158,23 @@ impl<'a> Adding<'a> {
 
     // Makes the new file, fills it and gives it the archive's name; whatever fails is said, and leaves no new file. Nothing tells whether
     // closing it fails: the whole file was on the disk before.
-    pub fn run<R: Files + Input + AllocGlobal>(
+    #[inline(never)]
+    pub fn run<R: Files + Input, V: Env>(
         &self,
         rt: &R,
+        arguments: &Arguments<'_, V>,
         err: &mut impl Write,
     ) -> Result<(), Complaint<'_>> {
         let mut new = self.create(rt).of(&self.new)?;
-        let filled = self.fill(rt, &mut new);
+        let filled = self.fill(rt, arguments, &mut new, err);
         drop(new);
-        let renamed = filled.and_then(|()| self.rename(rt).of(self.archive));
+        let renamed = match filled {
+            Ok(()) => or_say(self.rename(rt).of(self.archive), err),
+            Err(Said) => Err(Said),
+        };
         match renamed {
             Ok(()) => Ok(()),
-            Err(complaint) => {
-                complaint.say(err);
-                self.remove(rt).of(&self.new)
-            }
+            Err(Said) => self.remove(rt).of(&self.new),
         }
     }
 }

@@ -1,10 +1,9 @@
 // Files by what they have: a table, values, or a datagram as bytes or as hexadecimal digits.
 
-ghost use Rattle.std.specs.Prelude.{◌≡◌, ◌≤◌, IfOk, vec_len};
+ghost use Rattle.std.specs.Prelude.{◌≡◌, ◌≤◌, ◌<◌, IfOk, length};
 
 use super::complaint::{Complaint, Fault};
 use super::hex;
-use std::alloc::AllocFailed;
 use std::io::Write;
 use std::rt::Files;
 use std::{fmt, io};
@@ -53,7 +52,6 @@ pub enum FileFault {
     Long(Content),
     OddDigits,
     NoDigit,
-    OutOfMemory,
 }
 
 impl Fault for FileFault {
@@ -72,28 +70,27 @@ impl Fault for FileFault {
                     "something other than hexadecimal digits and white space"
                 )
             }
-            FileFault::OutOfMemory => write!(out, "out of memory"),
         }
     }
 }
 
-// There is no room for the bytes of digits.
-impl<T: Drop> From<AllocFailed<T>> for FileFault {
-    fn from(_fault: AllocFailed<T>) -> FileFault {
-        FileFault::OutOfMemory
-    }
-}
+// The most bytes that are read of a file, and one more; of hexadecimal digits.
+pub const ROOM: usize = 65536;
 
-// The bytes of a file.
-pub fn read<R: Files + io::Input + AllocGlobal>(
+const DIGITS_ROOM: usize = 262144;
+
+// The bytes of a file, in a buffer.
+pub fn read<'b, R: Files + io::Input>(
     inputs: &mut Inputs<'_, R>,
     path: &[u8],
     content: Content,
-) -> Result<Vec<u8>, Complaint<FileFault>>
-    ensures digits { IfOk result (λ bytes. vec_len bytes ≤ 262143) }
-    ensures others { ¬ (content ≡ Content.Digits) → IfOk result (λ bytes. vec_len bytes ≤ 65535) }
+    room: &'b mut [u8],
+) -> Result<&'b [u8], Complaint<FileFault>>
+    ensures digits { IfOk result (λ bytes. length bytes.now ≤ 262143) }
+    ensures others { ¬ (content ≡ Content.Digits) → IfOk result (λ bytes. length bytes.now ≤ 65535) }
 {
-    inputs.read_whole(path, content.most()).map_err(|error| {
+    let len = room.len().min(content.most() + 1);
+    inputs.read_whole(path, &mut room[..len]).map_err(|error| {
         Complaint::of_file(match error {
             InputError::TooLong => FileFault::Long(content),
             InputError::Unread(why) => FileFault::Unread(why),
@@ -101,19 +98,31 @@ pub fn read<R: Files + io::Input + AllocGlobal>(
     })
 }
 
-// The datagram of a file, which has its bytes, or has them as hexadecimal digits.
-pub fn read_datagram<R: Files + io::Input + AllocGlobal>(
+// The datagram of a file that has it as hexadecimal digits, in a buffer. A call of its own, so that only who asks for digits has their array.
+#[inline(never)]
+fn read_digits<'b, R: Files + io::Input>(
+    inputs: &mut Inputs<'_, R>,
+    path: &[u8],
+    room: &'b mut [u8],
+) -> Result<&'b [u8], Complaint<FileFault>>
+    ensures { IfOk result (λ datagram. length datagram.now < length room.old) }
+{
+    let mut digits = [0; DIGITS_ROOM];
+    let text = read(inputs, path, Content::Digits, &mut digits)?;
+    hex::bytes_of(text, room).map_err(|fault| Complaint::of_file(fault))
+}
+
+// The datagram of a file, which has its bytes, or has them as hexadecimal digits. It is in a buffer.
+pub fn read_datagram<'b, R: Files + io::Input>(
     inputs: &mut Inputs<'_, R>,
     path: &[u8],
     content: Content,
-) -> Result<Vec<u8>, Complaint<FileFault>>
-    ensures { IfOk result (λ datagram. vec_len datagram ≤ 65535) }
+    room: &'b mut [u8; ROOM],
+) -> Result<&'b [u8], Complaint<FileFault>>
+    ensures { IfOk result (λ datagram. length datagram.now ≤ 65535) }
 {
-    let bytes = read(inputs, path, content)?;
     match content {
-        Content::Digits => {
-            hex::bytes_of(*bytes.allocator(), &bytes).map_err(|fault| Complaint::of_file(fault))
-        }
-        _ => Ok(bytes),
+        Content::Digits => read_digits(inputs, path, room),
+        _ => read(inputs, path, content, room),
     }
 }

@@ -1,12 +1,8 @@
 // Bytes written as hexadecimal digits.
 
-ghost use Rattle.std.specs.Prelude.{◌≤◌, IfOk, vec_len};
+ghost use Rattle.std.specs.Prelude.{◌<◌, IfOk, length};
 
 use super::files::{Content, FileFault};
-use std::alloc::Global;
-
-// The most bytes that digits are read as.
-const BYTES_MOST: usize = 65535;
 
 // Whether a byte may stand between digits.
 fn is_space(b: u8) -> bool {
@@ -21,28 +17,31 @@ fn digit(b: u8) -> Result<u8, FileFault> {
     }
 }
 
-// The bytes of digits. Two digits are a byte; white space may stand anywhere.
-pub fn bytes_of(alloc: Global, text: &[u8]) -> Result<Vec<u8>, FileFault>
-    ensures { IfOk result (λ bytes. vec_len bytes ≤ 65535) }
+// The bytes of digits, in a buffer of which they have to leave some room. Two digits are a byte; white space may stand anywhere.
+pub fn bytes_of<'b>(text: &[u8], room: &'b mut [u8]) -> Result<&'b [u8], FileFault>
+    ensures { IfOk result (λ bytes. length bytes.now < length room.old) }
 {
-    let mut bytes = Vec::new(alloc);
+    let mut len = 0;
     let mut high = None;
     for b in text.iter().filter(|b| !is_space(**b)) {
         let low = digit(*b)?;
         // Asked here too: too many bytes are refused before a later byte that is no digit, and before an odd number of digits.
-        if BYTES_MOST < bytes.len() {
+        if room.len() <= len {
             return Err(FileFault::Long(Content::Datagram));
         }
         match high.take() {
-            Some(high) => bytes.push(high << 4 | low)?,
+            Some(high) => {
+                room[len] = high << 4 | low;
+                len += 1;
+            }
             None => high = Some(low),
         }
     }
     if high.is_some() {
         return Err(FileFault::OddDigits);
     }
-    if BYTES_MOST < bytes.len() {
+    if room.len() <= len {
         return Err(FileFault::Long(Content::Datagram));
     }
-    Ok(bytes)
+    Ok(&room[..len])
 }

@@ -34,9 +34,5 @@ use text::argument::Arguments;
 
 // Runs the program over the three streams.
 fn main(rt: HostRuntime) {
-    let mut program = Program::new(&rt, rt.stdout(), rt.stderr());
-    match Arguments::new(&rt, rt.alloc()) {
-        Ok(arguments) => program.run(&arguments),
-        Err(_) => program.say("out of memory"),
-    }
+    Program::new(&rt, rt.stdout(), rt.stderr()).run(&Arguments::new(&rt));
 }

@@ -1,14 +1,14 @@
 // What the program does, with what it reads and writes.
 
 use super::complaint::{Complaint, Fault};
-use super::files::{self, Content};
+use super::files::{self, Content, ROOM};
 use super::sheet::Sheet;
 use super::tally::Tally;
 use super::{make, show, table_file, values};
 use std::io;
 use std::io::{Input, Write};
-use std::rt::Files;
-use text::argument::Arguments;
+use std::rt::{Env, Files};
+use text::argument::{Argument, Arguments};
 use text::file::Inputs;
 use text::word;
 
@@ -27,6 +27,16 @@ const COMMANDS: [(&str, Command); 3] = [
 
 const USAGE: &str =
     "usage: desk show TABLE [FILE...], desk show-hex TABLE [FILE...], desk make TABLE [VALUES]";
+
+// An argument. One that is missing or too long has no bytes, and is the name of no file.
+fn argument<V: Env>(arguments: &Arguments<'_, V>, i: usize) -> Argument {
+    arguments.get(i).unwrap_or_default()
+}
+
+// What the first argument asks for.
+fn asked<V: Env>(arguments: &Arguments<'_, V>) -> Option<Command> {
+    word::named(&COMMANDS, argument(arguments, 1).as_bytes())
+}
 
 // The files that are read, standard output and standard error.
 #[derive(Drop)]
@@ -49,7 +59,7 @@ impl<'a, R: Files + Input + AllocGlobal, O: Write, E: Write> Program<'a, R, O, E
     }
 
     // Says something on standard error. Where even that can't be written, nobody can be told.
-    pub fn say(&mut self, text: &str) {
+    fn say(&mut self, text: &str) {
         let _ = writeln!(self.err, "{text}");
     }
 
@@ -84,7 +94,8 @@ impl<'a, R: Files + Input + AllocGlobal, O: Write, E: Write> Program<'a, R, O, E
         sheet: &Sheet<'_>,
         tally: &mut Tally,
     ) -> io::Result<()> {
-        let read = files::read_datagram(&mut self.inputs, path, content);
+        let mut room = [0; ROOM];
+        let read = files::read_datagram(&mut self.inputs, path, content, &mut room);
         let Some(datagram) = self.or_complain(path, read) else {
             tally.add_unread();
             return Ok(());
@@ -92,14 +103,14 @@ impl<'a, R: Files + Input + AllocGlobal, O: Write, E: Write> Program<'a, R, O, E
         if is_one_of_many {
             self.title(path)?;
         }
-        tally.add(show::datagram(&mut self.out, &datagram, sheet)?);
+        tally.add(show::datagram(&mut self.out, datagram, sheet)?);
         Ok(())
     }
 
     // Shows the datagrams that the arguments behind the table name, or the one on standard input.
-    fn show(
+    fn show<V: Env>(
         &mut self,
-        arguments: &Arguments,
+        arguments: &Arguments<'_, V>,
         content: Content,
         sheet: &Sheet<'_>,
     ) -> io::Result<()> {
@@ -109,8 +120,8 @@ impl<'a, R: Files + Input + AllocGlobal, O: Write, E: Write> Program<'a, R, O, E
             return self.show_file(b"-", content, false, sheet, &mut tally);
         }
         for i in 3..count {
-            let path = arguments.get(i).unwrap_or(&[]);
-            self.show_file(path, content, 4 < count, sheet, &mut tally)?;
+            let path = argument(arguments, i);
+            self.show_file(path.as_bytes(), content, 4 < count, sheet, &mut tally)?;
         }
         if 4 < count {
             // Each datagram has been shown: where this line can't be written, nothing is said.
@@ -122,9 +133,10 @@ impl<'a, R: Files + Input + AllocGlobal, O: Write, E: Write> Program<'a, R, O, E
     // The datagram of the values in a file.
     fn made(&mut self, path: &[u8], sheet: &Sheet<'_>) -> Option<Vec<u8>> {
         let alloc = self.rt.alloc();
-        let read = files::read(&mut self.inputs, path, Content::Values);
+        let mut room = [0; ROOM];
+        let read = files::read(&mut self.inputs, path, Content::Values, &mut room);
         let text = self.or_complain(path, read)?;
-        let values = self.or_complain(path, values::read(alloc, &text, sheet))?;
+        let values = self.or_complain(path, values::read(alloc, text, sheet))?;
         self.or_complain(path, make::datagram(alloc, &values, sheet))
     }
 
@@ -137,27 +149,27 @@ impl<'a, R: Files + Input + AllocGlobal, O: Write, E: Write> Program<'a, R, O, E
     }
 
     // Does what is asked under a sheet.
-    fn follow(
+    fn follow<V: Env>(
         &mut self,
         command: Command,
-        arguments: &Arguments,
+        arguments: &Arguments<'_, V>,
         sheet: &Sheet<'_>,
     ) -> io::Result<()> {
         match command {
             Command::Show(content) => self.show(arguments, content, sheet),
             Command::Make if arguments.len() <= 3 => self.make(b"-", sheet),
-            // An argument that is too long is the name of no file.
-            Command::Make => self.make(arguments.get(3).unwrap_or(&[]), sheet),
+            Command::Make => self.make(argument(arguments, 3).as_bytes(), sheet),
         }
     }
 
     // Does what is asked under the table of a file.
-    fn run_under(&mut self, command: Command, path: &[u8], arguments: &Arguments) {
-        let read = files::read(&mut self.inputs, path, Content::Table);
+    fn run_under<V: Env>(&mut self, command: Command, path: &[u8], arguments: &Arguments<'_, V>) {
+        let mut room = [0; ROOM];
+        let read = files::read(&mut self.inputs, path, Content::Table, &mut room);
         let Some(text) = self.or_complain(path, read) else {
             return;
         };
-        let read = table_file::read(self.rt.alloc(), &text);
+        let read = table_file::read(self.rt.alloc(), text);
         let Some(sheet) = self.or_complain(path, read) else {
             return;
         };
@@ -167,10 +179,12 @@ impl<'a, R: Files + Input + AllocGlobal, O: Write, E: Write> Program<'a, R, O, E
     }
 
     // Does what the arguments ask for.
-    pub fn run(&mut self, arguments: &Arguments) {
-        let asked = arguments.get(1).unwrap_or(&[]);
-        match word::named(&COMMANDS, asked) {
-            Some(command) => self.run_under(command, arguments.get(2).unwrap_or(&[]), arguments),
+    pub fn run<V: Env>(&mut self, arguments: &Arguments<'_, V>) {
+        match asked(arguments) {
+            Some(command) => {
+                let path = argument(arguments, 2);
+                self.run_under(command, path.as_bytes(), arguments);
+            }
             None => self.say(USAGE),
         }
     }

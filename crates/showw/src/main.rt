@@ -8,14 +8,13 @@
 mod show;
 mod table_w;
 
-use std::alloc::Global;
 use std::fmt;
 use std::io::{Read, Write};
 use text::input;
 use text::input::InputError;
 
-// The most bytes that a datagram has.
-const MOST: usize = 65535;
+// A byte more than the most that a datagram has.
+const ROOM: usize = 65536;
 
 // Why no datagram is shown.
 #[derive(Clone, Copy)]
@@ -46,18 +45,15 @@ impl From<InputError> for ShowError {
 }
 
 // Shows the datagram that is the whole of an input.
-fn show_datagram<S: Read + Drop, W: Write>(
-    alloc: Global,
-    source: S,
-    out: &mut W,
-) -> Result<(), ShowError> {
-    let datagram = input::read_whole(alloc, source, MOST)?;
-    let answer = table_w::read_w(&datagram);
+fn show_datagram<S: Read + Drop, W: Write>(source: S, out: &mut W) -> Result<(), ShowError> {
+    let mut room = [0; ROOM];
+    let datagram = input::read_whole(source, &mut room)?;
+    let answer = table_w::read_w(datagram);
     show::write_answer(out, &answer, &table_w::table_w()).map_err(|_| ShowError::Unwritten)
 }
 
 fn main(rt: HostRuntime) {
-    if let Err(why) = show_datagram(rt.alloc(), rt.stdin(), &mut rt.stdout()) {
+    if let Err(why) = show_datagram(rt.stdin(), &mut rt.stdout()) {
         let _ = eprintln!(rt; "showw: {why}");
     }
 }

@@ -1,4 +1,4 @@
-pub mod Argument
 pub mod Decimal
+pub mod Input
 pub mod Number
 pub mod Word

@@ -1,6 +1,7 @@
 // Files by their names, read to their ends; - is standard input.
 
-ghost use Rattle.std.specs.Prelude.{◌≡◌, ◌≤◌, IfOk, vec_len};
+ghost use Rattle.std.specs.Prelude.{◌≡◌, ◌≢◌, ◌≤◌, ◌<◌, false, true, Err, IfOk, IsErr, codes, length};
+ghost use Rattle.text.specs.Input.{IsStartOfOne, IsWholeOfOne, OneFills};
 
 use super::input::InputError;
 use super::{failure, input};
@@ -16,40 +17,52 @@ pub struct Inputs<'a, R> {
     is_closed: bool,
 }
 
-impl<'a, R: Files + Input + AllocGlobal> Inputs<'a, R> {
-    pub fn new(rt: &'a R) -> Self {
+impl<'a, R: Files + Input> Inputs<'a, R> {
+    pub fn new(rt: &'a R) -> Self
+        ensures { result.is_closed ≡ false }
+    {
         Inputs {
             rt,
             is_closed: false,
         }
     }
 
-    // The first bytes of a file, at most so many.
-    pub fn read_start(&mut self, path: &[u8], most: usize) -> io::Result<Vec<u8>>
-        ensures bound { IfOk result (λ start. vec_len start ≤ most) }
+    // The first bytes of a file, as many as a buffer has room for.
+    pub fn read_start<'b>(&mut self, path: &[u8], buf: &'b mut [u8]) -> io::Result<&'b [u8]>
+        ensures bound { IfOk result (λ start. length start.now ≤ length buf.old) }
+        ensures file { path.now ≢ codes "-" → IfOk result (λ start. IsStartOfOne R.File.remaining (length buf.old) start.now) }
+        ensures standard { path.now ≡ codes "-" → IfOk result (λ start. IsStartOfOne R.Reader.remaining (length buf.old) start.now) }
     {
         if path == b"-".as_slice() {
-            return self.read_standard(most);
+            return input::read_start(self.standard()?, buf);
         }
-        input::read_start(self.rt.alloc(), open(self.rt, path)?, most)
+        input::read_start(open(self.rt, path)?, buf)
     }
 
-    // The whole of a file, which may have at most so many bytes.
-    pub fn read_whole(&mut self, path: &[u8], most: usize) -> Result<Vec<u8>, InputError>
-        ensures bound { IfOk result (λ whole. vec_len whole ≤ most) }
+    // The whole of a file, which has to leave some of a buffer's room.
+    pub fn read_whole<'b>(&mut self, path: &[u8], buf: &'b mut [u8]) -> Result<&'b [u8], InputError>
+        ensures bound { IfOk result (λ whole. length whole.now < length buf.old) }
+        ensures file { path.now ≢ codes "-" → IfOk result (λ whole. IsWholeOfOne R.File.remaining whole.now) }
+        ensures standard { path.now ≡ codes "-" → IfOk result (λ whole. IsWholeOfOne R.Reader.remaining whole.now) }
+        ensures file_too_long { path.now ≢ codes "-" → result ≡ Err InputError.TooLong → OneFills R.File.remaining (length buf.old) }
+        ensures standard_too_long { path.now ≡ codes "-" → result ≡ Err InputError.TooLong → OneFills R.Reader.remaining (length buf.old) }
     {
-        input::within(self.read_start(path, most.saturating_add(1))?, most)
+        if path == b"-".as_slice() {
+            return input::read_whole(self.standard()?, buf);
+        }
+        input::read_whole(open(self.rt, path)?, buf)
     }
 
-    // The first bytes of standard input, which can't be read twice.
-    fn read_standard(&mut self, most: usize) -> io::Result<Vec<u8>>
-        ensures bound { IfOk result (λ start. vec_len start ≤ most) }
+    // Standard input, which can't be read twice.
+    fn standard(&mut self) -> io::Result<R::Reader>
+        ensures once { self.new.is_closed ≡ true }
+        ensures twice { self.old.is_closed ≡ true → IsErr result }
     {
         if self.is_closed {
             return Err(failure::not_open());
         }
         self.is_closed = true;
-        input::read_start(self.rt.alloc(), self.rt.reader(), most)
+        Ok(self.rt.reader())
     }
 }
 

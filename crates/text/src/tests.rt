@@ -8,19 +8,22 @@ use crate::quote::QuoteError;
 use crate::say::OrNone;
 use crate::word::Words;
 use crate::{decimal, input, quote};
+use std::env::FillError;
 use std::io;
 use std::io::Read;
+use std::rt::Env;
 use std::test::Fail;
 
 #[test]
 fn reads_whole_inputs_alone(rt: HostRuntime) -> Result<(), Fail> {
-    let whole = input::read_whole(rt.alloc(), b"abc".as_slice(), 3)?;
-    assert_eq!(rt; whole.as_slice(), b"abc".as_slice());
-    let start = input::read_start(rt.alloc(), b"abc".as_slice(), 2)?;
-    assert_eq!(rt; start.as_slice(), b"ab".as_slice());
+    let mut room = [0; 4];
+    let whole = input::read_whole(b"abc".as_slice(), &mut room)?;
+    assert_eq!(rt; whole, b"abc".as_slice());
+    let start = input::read_start(b"abc".as_slice(), &mut room[..2])?;
+    assert_eq!(rt; start, b"ab".as_slice());
     assert!(rt;
         matches!(
-            input::read_whole(rt.alloc(), b"abc".as_slice(), 2),
+            input::read_whole(b"abc".as_slice(), &mut room[..3]),
             Err(InputError::TooLong)
         )
     );
@@ -46,7 +49,7 @@ impl Read for Broken {
 #[test]
 fn tells_a_reading_that_fails(rt: HostRuntime) {
     let source = Broken { is_begun: false };
-    match input::read_whole(rt.alloc(), source, 9) {
+    match input::read_whole(source, &mut [0; 10]) {
         Err(InputError::Unread(why)) => assert_eq!(rt; why.raw_os_error(), Some(5)),
         _ => assert!(rt; false),
     }
@@ -55,10 +58,11 @@ fn tells_a_reading_that_fails(rt: HostRuntime) {
 #[test]
 fn reads_files_and_standard_input_once(rt: HostRuntime) -> Result<(), Fail> {
     let mut inputs = Inputs::new(&rt);
-    assert_eq!(rt; inputs.read_whole(b"/dev/null", 0)?.len(), 0);
-    assert_eq!(rt; inputs.read_start(b"/dev/zero", 5)?.len(), 5);
-    let _ = inputs.read_start(b"-", 0);
-    match inputs.read_start(b"-", 0) {
+    let mut room = [0; 5];
+    assert_eq!(rt; inputs.read_whole(b"/dev/null", &mut room[..1])?.len(), 0);
+    assert_eq!(rt; inputs.read_start(b"/dev/zero", &mut room)?.len(), 5);
+    let _ = inputs.read_start(b"-", &mut []);
+    match inputs.read_start(b"-", &mut []) {
         Err(why) => assert_eq!(rt; why.raw_os_error(), Some(9)),
         Ok(_) => assert!(rt; false),
     }
@@ -66,11 +70,54 @@ fn reads_files_and_standard_input_once(rt: HostRuntime) -> Result<(), Fail> {
 }
 
 #[test]
-fn has_the_arguments(rt: HostRuntime) -> Result<(), Fail> {
-    let arguments = Arguments::new(&rt, rt.alloc())?;
+fn has_the_arguments(rt: HostRuntime) {
+    let arguments = Arguments::new(&rt);
     assert!(rt; arguments.get(0).is_some());
     assert!(rt; arguments.get(arguments.len()).is_none());
-    Ok(())
+}
+
+// Has three arguments: no byte, as many as there may be, and one more.
+struct Three;
+
+impl Env for Three {
+    fn arg(&self, i: usize, buf: &mut [u8]) -> Result<usize, FillError> {
+        let len = match i {
+            0 => 0,
+            1 => 4096,
+            2 => 4097,
+            _ => return Err(FillError::NotPresent),
+        };
+        if buf.len() < len {
+            return Err(FillError::TooLong);
+        }
+        Ok(len)
+    }
+
+    fn var(&self, _name: &str, _buf: &mut [u8]) -> Result<usize, FillError> {
+        Err(FillError::NotPresent)
+    }
+
+    fn var_at(&self, _i: usize, _buf: &mut [u8]) -> Result<usize, FillError> {
+        Err(FillError::NotPresent)
+    }
+}
+
+#[test]
+fn tells_arguments_that_are_too_long(rt: HostRuntime) {
+    let arguments = Arguments::new(&Three);
+    assert_eq!(rt; arguments.len(), 3);
+    assert_eq!(rt;
+        arguments.get(0).map(|argument| argument.as_bytes().len()),
+        Some(0)
+    );
+    assert_eq!(rt;
+        arguments.get(1).map(|argument| argument.as_bytes().len()),
+        Some(4096)
+    );
+    assert!(rt; arguments.get(2).is_none());
+    assert!(rt; arguments.is_longer(2));
+    assert!(rt; !arguments.is_longer(1));
+    assert!(rt; !arguments.is_longer(3));
 }
 
 #[test]

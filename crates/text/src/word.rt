@@ -81,10 +81,11 @@ fn quotation_len(line: &[u8]) -> usize
 
 // What a word names, its letters in either case.
 pub fn named<T: Copy>(names: &[(&str, T)], word: &[u8]) -> Option<T>
+    ensures some { IfSome result (λ value. ¬ All (λ name. AreAlike name.0.now word.now → ¬ (value ≡ name.1)) names.now) }
     ensures none { IsNone result ↔ All (λ name. ¬ AreAlike name.0.now word.now) names.now }
 {
-    names
+    let (_, value) = names
         .iter()
-        .find(|(name, _)| name.as_bytes().eq_ignore_ascii_case(word))
-        .map(|(_, value)| *value)
+        .find(|(name, _)| name.as_bytes().eq_ignore_ascii_case(word))?;
+    Some(*value)
 }
