@@ -2,19 +2,18 @@
 
 #![tactic(auto)]
 
-ghost use Rattle.std.specs.Prelude.{◌^◌, ◌<◌, ◌≤◌, IfOk, length, vec_len};
+ghost use Rattle.std.specs.Prelude.{◌^◌, ◌<◌, ◌≤◌, IfOk, length};
 
 use archive::add::Kept;
 use archive::find::Found;
 use archive::open::Opening;
 use archive::{add, find, open};
-use std::alloc::Global;
 use std::io;
 use std::io::{Read, Write};
 use wire::id::SessionId;
 
 // More bytes than a case's file or message has.
-const ROOM: u32 = 131072;
+const ROOM: usize = 131072;
 
 // More cases than an input has.
 const CASES_MOST: usize = 1000000000;
@@ -41,14 +40,15 @@ impl From<u8> for Operation {
     }
 }
 
-// A case: an operation with its file, its number (a size, a message's number or a Session ID) and its message.
+// A case: an operation with its file, its number (a size, a message's number or a Session ID) and its message. Both lie in what is lent for
+// them.
 #[derive(Drop)]
-struct Case {
+struct Case<'a> {
     operation: Operation,
-    file: Vec<u8>,
+    file: &'a mut [u8],
     number: u64,
-    message: Vec<u8>,
-    ghost short: { vec_len file ≤ 131072 },
+    message: &'a [u8],
+    ghost short: { length file.now ≤ 131072 },
 }
 
 // The answer to a case but for the file's bytes: a verdict's number and three numbers. Its form has 0 where an operation has no such.
@@ -93,24 +93,38 @@ fn read_bytes<const N: usize>(input: &mut impl Read) -> io::Result<[u8; N]> {
     Ok(bytes)
 }
 
-// A length of four bytes, and so many bytes.
-fn read_run(alloc: Global, input: &mut impl Read) -> io::Result<Vec<u8>>
-    ensures { IfOk result (λ run. vec_len run ≤ 131072) }
+// So many bytes, but not more than a buffer has, read into its start.
+fn read_run<'a>(
+    input: &mut impl Read,
+    len: u32,
+    room: &'a mut [u8; ROOM],
+) -> io::Result<&'a mut [u8]>
+    ensures { IfOk result (λ run. length run.now ≤ 131072) }
 {
-    let len = u32::from_be_bytes(read_bytes(input)?).min(ROOM);
-    let mut run = vec![in alloc; 0; len as usize]?;
-    input.read_exact(&mut run)?;
+    let run = &mut room[..ROOM.min(len as usize)];
+    input.read_exact(run)?;
     Ok(run)
 }
 
-// The case that stands next; an input that has none is at its end.
-fn read_case(alloc: Global, input: &mut impl Read) -> io::Result<Case> {
-    let [code]: [u8; 1] = read_bytes(input)?;
+// The case that stands next; an input that has none is at its end. It is read in four calls: up to each length, and what the length says.
+fn read_case<'a>(
+    input: &mut impl Read,
+    file: &'a mut [u8; ROOM],
+    message: &'a mut [u8; ROOM],
+) -> io::Result<Case<'a>> {
+    let head: [u8; 5] = read_bytes(input)?;
+    let mut fields = &head[..];
+    let [code]: [u8; 1] = read_bytes(&mut fields)?;
+    let file = read_run(input, u32::from_be_bytes(read_bytes(&mut fields)?), file)?;
+    let asked: [u8; 12] = read_bytes(input)?;
+    let mut fields = &asked[..];
+    let number = u64::from_be_bytes(read_bytes(&mut fields)?);
+    let message = read_run(input, u32::from_be_bytes(read_bytes(&mut fields)?), message)?;
     Ok(Case {
         operation: Operation::from(code),
-        file: read_run(alloc, input)?,
-        number: u64::from_be_bytes(read_bytes(input)?),
-        message: read_run(alloc, input)?,
+        file,
+        number,
+        message,
     })
 }
 
@@ -118,39 +132,50 @@ fn read_case(alloc: Global, input: &mut impl Read) -> io::Result<Case> {
 fn answered(case: &mut Case) -> Answer {
     let number = case.number as usize;
     match case.operation {
-        Operation::Add => Answer::from(add::add(&mut case.file, number, &case.message)),
-        Operation::Close => Answer::from(add::close(&mut case.file, number)),
-        Operation::Open => Answer::from(open::open(&case.file)),
-        Operation::Read => Answer::from(find::read(&case.file, number)),
-        Operation::Find => Answer::from(find::find(&case.file, SessionId((number % 65536) as u16))),
+        Operation::Add => Answer::from(add::add(case.file, number, case.message)),
+        Operation::Close => Answer::from(add::close(case.file, number)),
+        Operation::Open => Answer::from(open::open(case.file)),
+        Operation::Read => Answer::from(find::read(case.file, number)),
+        Operation::Find => Answer::from(find::find(case.file, SessionId((number % 65536) as u16))),
     }
 }
 
-// Writes an answer and the file's bytes.
+// Writes an answer, and then the file's bytes.
 fn write_answer(out: &mut impl Write, answer: Answer, file: &[u8]) -> io::Result<()>
     requires { length file.now < 2 ^ 32 }
 {
-    out.write_all(&[answer.verdict])?;
+    let mut head = [0; 29];
+    let mut room = &mut head[..];
+    room.write_all(&[answer.verdict])?;
     for number in answer.numbers {
-        out.write_all(&number.to_be_bytes())?;
+        room.write_all(&number.to_be_bytes())?;
     }
-    out.write_all(&(file.len() as u32).to_be_bytes())?;
+    room.write_all(&(file.len() as u32).to_be_bytes())?;
+    out.write_all(&head)?;
     out.write_all(file)
 }
 
 // Runs the case that stands next.
-fn run_case(alloc: Global, input: &mut impl Read, out: &mut impl Write) -> io::Result<()> {
-    let mut case = read_case(alloc, input)?;
+fn run_case(
+    input: &mut impl Read,
+    file: &mut [u8; ROOM],
+    message: &mut [u8; ROOM],
+    out: &mut impl Write,
+) -> io::Result<()> {
+    let mut case = read_case(input, file, message)?;
     let answer = answered(&mut case);
-    write_answer(out, answer, &case.file)
+    let Case { file, .. } = case;
+    write_answer(out, answer, file)
 }
 
 // Runs case after case, up to the input's end or a failed write.
 fn main(rt: HostRuntime) {
     let mut input = rt.stdin();
     let mut out = rt.stdout();
+    let mut file = [0; ROOM];
+    let mut message = [0; ROOM];
     for _ in 0..CASES_MOST {
-        if run_case(rt.alloc(), &mut input, &mut out).is_err() {
+        if run_case(&mut input, &mut file, &mut message, &mut out).is_err() {
             return;
         }
     }

@@ -8,7 +8,7 @@ use payload::{read, table, write};
 use std::alloc::Global;
 use std::io::{self, Write};
 
-// Runs a line: it sets something, or it is a case, whose label and answer are written.
+// Runs a line: it sets something, or it is a case, whose label and answer are written and handed on before the next line.
 pub fn run_line<W: Write>(
     alloc: Global,
     text: &[u8],
@@ -24,7 +24,8 @@ pub fn run_line<W: Write>(
     out.write_all(label)?;
     out.write_all(b"\n")?;
     let (word, _) = line::split_at_mark(label, b' ');
-    run_case(word, &bytes, setting, out)
+    run_case(word, &bytes, setting, out)?;
+    out.flush()
 }
 
 // Runs a case, and writes the answer.

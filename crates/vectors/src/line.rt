@@ -1,5 +1,7 @@
 // The lines of the input: a label, a colon and bytes in hexadecimal.
 
+ghost use Rattle.std.specs.Prelude.{◌≤◌, IfOk, vec_len};
+
 use std::alloc::{AllocError, Global};
 use std::array;
 
@@ -22,15 +24,18 @@ fn digit_of(b: u8) -> Option<u8> {
 }
 
 // The bytes of a line, of which those past the most are cut off. What is no digit is passed over between bytes, and counts as 0 within one.
-pub fn decode(alloc: Global, digits: &[u8]) -> Result<Vec<u8>, AllocError> {
+// Put into the body of `run_line`, the loop takes more.
+#[inline(never)]
+pub fn decode(alloc: Global, digits: &[u8]) -> Result<Vec<u8>, AllocError>
+    ensures { IfOk result (λ bytes. vec_len bytes ≤ 2048) }
+{
     let mut bytes = Vec::with_capacity(alloc, MOST)?;
     let mut digits = digits.iter();
-    while let Some(b) = digits.next() {
-        let Some(high) = digit_of(*b) else { continue };
+    while bytes.len() < MOST {
+        let Some(high) = digits.find_map(|b| digit_of(*b)) else {
+            break
+        };
         let Some(low) = digits.next() else { break };
-        if bytes.len() == MOST {
-            break;
-        }
         bytes.push(high << 4 | digit_of(*low).unwrap_or(0))?;
     }
     Ok(bytes)
@@ -52,7 +57,11 @@ impl Fields<'_> {
 
     // The next N bytes.
     fn bytes<const N: usize>(&mut self) -> [u8; N] {
-        array::from_fn(|_| self.byte())
+        let Some((first, rest)) = self.0.split_first_chunk() else {
+            return array::from_fn(|_| self.byte())
+        };
+        self.0 = rest;
+        *first
     }
 
     // The number of the next two bytes.

@@ -1,5 +1,7 @@
 // The answers, in the form of docs/CASES.md. Each follows its case's label.
 
+ghost use Rattle.std.specs.Prelude.{◌<◌};
+
 use super::lent;
 use message::read::MessageReading;
 use payload::read::Reading;
@@ -8,9 +10,11 @@ use payload::table::Table;
 use payload::write::Written;
 use std::io::{self, Write};
 use std::{fmt, num};
-use wire::number;
 use wire::part::Part;
 use wire::verdict::Verdict;
+
+// How many bytes are turned into digits at once.
+const PIECE: usize = 64;
 
 // A verdict's number and its return code.
 #[derive(Clone, Copy)]
@@ -39,6 +43,7 @@ impl fmt::Display for Place {
 }
 
 // What a value row holds: a float by its bits, with a word where the float beside them is another, and bits beside another value if not 0.
+// The float of the bits is std's, not the library's, which made the row.
 #[derive(Clone, Copy)]
 struct Shown(Row);
 
@@ -47,12 +52,12 @@ impl fmt::Display for Shown {
         let bits = self.0.bits;
         match self.0.value {
             Value::Float32(x) => {
-                let same = number::float32_of((bits & 0xffff_ffff) as u32);
+                let same = num::f32_from_bits_with_nan((bits & 0xffff_ffff) as u32);
                 let word = other(f64::from(x), f64::from(same));
                 return write!(f, "float32 {bits:08x}{word}");
             }
             Value::Float64(x) => {
-                let word = other(x, number::float64_of(bits));
+                let word = other(x, num::f64_from_bits_with_nan(bits));
                 return write!(f, "float64 {bits:016x}{word}");
             }
             Value::Absent => f.write_str("absent"),
@@ -133,10 +138,33 @@ pub fn written<W: Write>(w: Written, output: &[u8], out: &mut W) -> io::Result<(
     if !output.is_empty() {
         out.write_all(b" ")?;
     }
-    for byte in output {
-        write!(out, "{byte:02X}")?;
-    }
+    hexadecimal(output, out)?;
     out.write_all(b"\n")
+}
+
+// A hexadecimal digit, a capital one.
+fn digit(x: u8) -> u8
+    requires { x < 16 }
+{
+    if x < 10 { b'0' + x } else { b'A' - 10 + x }
+}
+
+// The digits of at most so many bytes as a piece has. Behind them stand zeros.
+fn piece_of(bytes: &[u8]) -> [[u8; 2]; PIECE] {
+    let mut text = [[0; 2]; PIECE];
+    for (pair, byte) in text.iter_mut().zip(bytes) {
+        *pair = [digit(byte / 16), digit(byte % 16)];
+    }
+    text
+}
+
+// Writes bytes in hexadecimal, piece by piece.
+fn hexadecimal<W: Write>(bytes: &[u8], out: &mut W) -> io::Result<()> {
+    for piece in bytes.chunks(PIECE) {
+        let text = piece_of(piece);
+        out.write_all(text[..piece.len().min(PIECE)].as_flattened())?;
+    }
+    Ok(())
 }
 
 // The answer to a table.
