@@ -5,29 +5,29 @@ ghost use Rattle.wire.specs.Verdict.{verdict_number, return_code};
 
 #[derive(Clone, Copy, PartialEq, Eq, Debug)]
 pub enum Verdict {
-    Accepted = 0,
-    Table = 1,
-    Room = 2,
-    Short = 10,
-    Length = 11,
-    Protocol = 12,
-    Service = 13,
-    Interface = 14,
-    Method = 15,
-    MessageType = 16,
-    Large = 17,
-    TagCut = 20,
-    Wire = 21,
-    Twice = 22,
-    FieldCut = 23,
-    Overrun = 24,
-    Array = 25,
-    Text = 26,
-    Missing = 27,
-    Value = 30,
-    Outside = 31,
-    Wide = 32,
-    Heavy = 33,
+    Accepted,
+    Table,
+    Room,
+    Short,
+    Length,
+    Protocol,
+    Service,
+    Interface,
+    Method,
+    MessageType,
+    Large,
+    TagCut,
+    Wire,
+    Twice,
+    FieldCut,
+    Overrun,
+    Array,
+    Text,
+    Missing,
+    Value,
+    Outside,
+    Wide,
+    Heavy,
 }
 
 impl Verdict {
@@ -35,7 +35,31 @@ impl Verdict {
     pub fn number(self) -> u8
         ensures { result ≡ verdict_number self }
     {
-        self as u8
+        match self {
+            Verdict::Accepted => 0,
+            Verdict::Table => 1,
+            Verdict::Room => 2,
+            Verdict::Short => 10,
+            Verdict::Length => 11,
+            Verdict::Protocol => 12,
+            Verdict::Service => 13,
+            Verdict::Interface => 14,
+            Verdict::Method => 15,
+            Verdict::MessageType => 16,
+            Verdict::Large => 17,
+            Verdict::TagCut => 20,
+            Verdict::Wire => 21,
+            Verdict::Twice => 22,
+            Verdict::FieldCut => 23,
+            Verdict::Overrun => 24,
+            Verdict::Array => 25,
+            Verdict::Text => 26,
+            Verdict::Missing => 27,
+            Verdict::Value => 30,
+            Verdict::Outside => 31,
+            Verdict::Wide => 32,
+            Verdict::Heavy => 33,
+        }
     }
 
     // The return code that a verdict answers, if it answers one.
@@ -53,7 +77,8 @@ impl Verdict {
             Verdict::Overrun | Verdict::Array | Verdict::Text | Verdict::Missing => Some(9),
             Verdict::MessageType => Some(10),
             Verdict::Table | Verdict::Room => None,
-            Verdict::Value | Verdict::Outside | Verdict::Wide | Verdict::Heavy => None,
+            Verdict::Value | Verdict::Outside | Verdict::Wide => None,
+            Verdict::Heavy => None,
         }
     }
 }
