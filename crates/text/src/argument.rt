@@ -76,7 +76,10 @@ impl<'a, E: Env> Arguments<'a, E> {
     pub fn get(&self, i: usize) -> Option<Argument>
         ensures { OnSome result (i < self.now.count) }
     {
-        self.read(i).ok()
+        match self.read(i) {
+            Ok(argument) => Some(argument),
+            Err(_) => None,
+        }
     }
 
     // Whether there is an argument that is too long.

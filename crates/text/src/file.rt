@@ -50,7 +50,7 @@ impl<'a, R: Files + Input> Inputs<'a, R> {
         if path == b"-".as_slice() {
             return input::read_whole(self.standard()?, buf);
         }
-        input::read_whole(open(self.rt, path)?, buf)
+        Ok(input::read_whole(open(self.rt, path)?, buf)?)
     }
 
     // Standard input, which can't be read twice.
