@@ -78,16 +78,20 @@ impl Walker<'_> {
         }
     }
 
-    // Whether a required row of a level was not met.
-    fn lacks(&self, level: Level) -> bool
-        requires { Stops self.now.table.now.cells level.first level.stop self.now.table.now.count level.number
-            × (length self.now.rows ≡ 64) }
-        ensures { result ≡ lacks_of level.number (drop level.first (types_in self.now)) (drop level.first (met_in self.now)) }
+    // Whether a required row of a level was not met. Each other such row is shown as absent: it began so, and no default takes its place.
+    fn lacks(&mut self, level: Level) -> bool
+        requires { Stops self.old.table.now.cells level.first level.stop self.old.table.now.count level.number
+            × (length self.old.rows ≡ 64) }
+        ensures is { result ≡ lacks_of level.number (drop level.first (types_in self.old)) (drop level.first (met_in self.old)) }
+        ensures kept { self.new ≡ self.old }
     {
         for i in level.first..level.stop {
-            let cell = self.table.cell(i);
-            if cell.level() == level.number && cell.is_required() && self.rows[i].is_absent() {
-                return true;
+            if self.rows[i].is_absent() {
+                let cell = self.table.cell(i);
+                if cell.level() == level.number && cell.is_required() {
+                    return true;
+                }
+                self.rows[i].value = Value::Absent;
             }
         }
         false

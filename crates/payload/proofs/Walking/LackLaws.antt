@@ -5,16 +5,28 @@ use Prim.Native.Nat.{ℕ, suc, ◌≤◌, ◌<◌}
 use native.Mathlib.Omega.{arith}
 use mathlib.Core.Bool.{Bool, true, false}
 use mathlib.Core.List.{List, ◌∷◌}
-use lib.ListN.{length, take, drop, get_or}
+use lib.ListN.{length, take, drop, get_or, set}
 use lib.Seq.{drop-cons, get_or-take, length-take-le}
 use lib.Dec.{ltb, eqb}
 use borrow.Author.Tests.{lt-ltb, le-ltb, eq-eqb, eqb-true, ltb-true, ltb-false}
+use Rattle.std.proofs.lemmas.List.{set-get_or}
 use Rattle.wire.specs.Choose.{and, or}
 use Rattle.payload.specs.declared.row.Row.{Row}
+use Rattle.payload.specs.declared.row.Value.TheVariants.{Absent}
+use Rattle.payload.specs.declared.read.Walker.{Walker}
 use Rattle.payload.specs.Cells.{level_in, required_in, table_in}
 use Rattle.payload.specs.Row.{absent_row, is_absent}
 use Rattle.payload.specs.Reading.{lacks}
 use Rattle.payload.proofs.Rules.CellLaws.{rows_end, rows_here}
+use Rattle.payload.proofs.Writing.Nesting.{absent_value_lem}
+
+-- a row that is absent shows that already, and a walker that has it shown so is as it was
+absent_shown : (r : Row) → is_absent r ≡ true → record r { value = Absent } ≡ r
+absent_shown r e = rw (← absent_value_lem r e)
+
+pub shown_absent : (w : Walker) (i : ℕ) → is_absent (get_or w.rows i absent_row) ≡ true
+    → record w { rows = set w.rows i (record (get_or w.rows i absent_row) { value = Absent }) } ≡ w
+shown_absent w i e = rw (absent_shown (get_or w.rows i absent_row) e, set-get_or w.rows i absent_row)
 
 module _ (cells : List ℕ) (rows : List Row) (n l : ℕ) (long : n ≤ length rows) where
   -- from row i on a required row of the level is missing

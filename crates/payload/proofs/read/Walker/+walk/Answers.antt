@@ -92,10 +92,12 @@ pub read_level-loop-at-preserved : goal.read_level-loop-at-preserved
 read_level-loop-at-preserved t c = way_more _ _ _ _ _ c.loop-at.invariant _ _ c.read_member.ensures _ c.in_ok-at.was
 
 pub read_level-returns-then-lacks : goal.read_level-returns-then-lacks
-read_level-returns-then-lacks t c = way_missing _ _ _ _ _ c.loop-at.invariant c.loop-at-test.false (sym c.lacks.ensures ∙ c.if-lacks.true)
+read_level-returns-then-lacks t c =
+    rw c.lacks.ensures.kept (way_missing _ _ _ _ _ c.loop-at.invariant c.loop-at-test.false (sym c.lacks.ensures.is ∙ c.if-lacks.true))
 
 pub read_level-returns : goal.read_level-returns
-read_level-returns t c = way_closed _ _ _ _ _ c.loop-at.invariant c.loop-at-test.false (sym c.lacks.ensures ∙ c.if-lacks.false)
+read_level-returns t c =
+    rw c.lacks.ensures.kept (way_closed _ _ _ _ _ c.loop-at.invariant c.loop-at-test.false (sym c.lacks.ensures.is ∙ c.if-lacks.false))
 
 -- ---- a member
 
