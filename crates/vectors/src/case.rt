@@ -1,22 +1,22 @@
 // The cases, each told by its label's first word.
 
-use super::line::{self, Fields};
+use super::line::{self, Bytes, Fields};
 use super::setting::{Item, Setting};
 use super::show;
 use message::{read as message_read, write as message_write};
 use payload::{read, table, write};
-use std::alloc::Global;
 use std::io::{self, Write};
 
-// Runs a line: it sets something, or it is a case, whose label and answer are written and handed on before the next line.
+// Runs a line, whose bytes are put into those lent: it sets something, or it is a case, whose label and answer are written and handed on
+// before the next line.
 pub fn run_line<W: Write>(
-    alloc: Global,
     text: &[u8],
+    bytes: &mut Bytes,
     setting: &mut Setting,
     out: &mut W,
 ) -> io::Result<()> {
     let (label, digits) = line::split_at_mark(text, b':');
-    let bytes = line::decode(alloc, digits)?;
+    line::decode(digits, bytes);
     if let Some(item) = Item::of(label) {
         setting.set(item, bytes);
         return Ok(());
@@ -24,7 +24,7 @@ pub fn run_line<W: Write>(
     out.write_all(label)?;
     out.write_all(b"\n")?;
     let (word, _) = line::split_at_mark(label, b' ');
-    run_case(word, &bytes, setting, out)?;
+    run_case(word, bytes, setting, out)?;
     out.flush()
 }
 

@@ -1,12 +1,16 @@
 // The lines of the input: a label, a colon and bytes in hexadecimal.
 
-ghost use Rattle.std.specs.Prelude.{◌≤◌, IfOk, vec_len};
+ghost use Rattle.std.specs.Prelude.{◌≤◌};
+ghost use Rattle.arrayvec.specs.ArrayVec.{array_vec_len};
 
-use std::alloc::{AllocError, Global};
+use arrayvec::ArrayVec;
 use std::array;
 
 // The most bytes of a line.
 pub const MOST: usize = 2048;
+
+// The bytes of a line.
+pub type Bytes = ArrayVec<u8, MOST>;
 
 // What stands before the first of a mark, and what stands from it on: nothing where there is none.
 pub fn split_at_mark(text: &[u8], mark: u8) -> (&[u8], &[u8]) {
@@ -26,19 +30,18 @@ fn digit_of(b: u8) -> Option<u8> {
 // The bytes of a line, of which those past the most are cut off. What is no digit is passed over between bytes, and counts as 0 within one.
 // Put into the body of `run_line`, the loop takes more.
 #[inline(never)]
-pub fn decode(alloc: Global, digits: &[u8]) -> Result<Vec<u8>, AllocError>
-    ensures { IfOk result (λ bytes. vec_len bytes ≤ 2048) }
+pub fn decode(digits: &[u8], bytes: &mut Bytes)
+    ensures { array_vec_len bytes.new ≤ 2048 }
 {
-    let mut bytes = Vec::with_capacity(alloc, MOST)?;
+    bytes.clear();
     let mut digits = digits.iter();
     while bytes.len() < MOST {
         let Some(high) = digits.find_map(|b| digit_of(*b)) else {
             break
         };
         let Some(low) = digits.next() else { break };
-        bytes.push(high << 4 | digit_of(*low).unwrap_or(0))?;
+        bytes.push(high << 4 | digit_of(*low).unwrap_or(0));
     }
-    Ok(bytes)
 }
 
 // What is left of a line's bytes. Zeros follow behind their end.

@@ -4,46 +4,33 @@
 mod case;
 mod lent;
 mod line;
+mod lines;
+mod output;
 mod setting;
 mod show;
 
+use line::Bytes;
+use lines::{LINE_MOST, Lines};
+use output::Output;
 use setting::Setting;
-use std::io::{self, BufRead, BufReader, BufWriter, ErrorKind, Input, Read};
+use std::io::{self, Read, Write};
 
-// The most bytes of a line with its line feed. A longer one is cut, and ends the input.
-const LINE_MOST: usize = 65536;
-
-// Runs each line. The last is one that no line feed ends.
-fn run<R: AllocGlobal + Input + Print>(rt: &R) -> io::Result<()> {
-    let mut input = BufReader::new(rt.alloc(), rt.reader())?;
-    let mut out = BufWriter::new(rt.alloc(), io::writer(rt))?;
-    let mut setting = Setting::new(rt.alloc());
-    let mut line = Vec::with_capacity(rt.alloc(), LINE_MOST)?;
+// Runs each line.
+fn run<S: Read + Drop, W: Write>(source: S, out: &mut W) -> io::Result<()> {
+    let mut buf = [0; LINE_MOST];
+    let mut lines = Lines::new(source);
+    let mut setting = Setting::new();
+    let mut bytes = Bytes::new();
     for _ in 0..u64::MAX {
-        line.clear();
-        // Where a read fails, the input ends. The line has room for all that is read.
-        let _ = input
-            .by_ref()
-            .take(LINE_MOST as u64)
-            .read_until(b'\n', &mut line);
-        match line.as_slice().split_last() {
-            Some((b'\n', whole)) => case::run_line(rt.alloc(), whole, &mut setting, &mut out)?,
-            Some(_) => {
-                case::run_line(rt.alloc(), &line, &mut setting, &mut out)?;
-                break;
-            }
-            None => break,
-        }
+        let Some(line) = lines.next(&mut buf) else {
+            break
+        };
+        case::run_line(line, &mut bytes, &mut setting, out)?;
     }
     Ok(())
 }
 
-// Where there is no memory, the program says so. Where the answers can't be written it ends without a word: who compares them sees what is
-// missing.
+// Where the answers can't be written the program ends without a word: who compares them sees what is missing.
 fn main(rt: HostRuntime) {
-    if let Err(why) = run(&rt) {
-        if why.kind() == ErrorKind::OutOfMemory {
-            let _ = eprintln!(rt; "vectors: out of memory");
-        }
-    }
+    let _ = run(rt.stdin(), &mut Output::new(rt.stdout()));
 }

@@ -1,12 +1,12 @@
 // What the lines of the input set for the cases behind them.
 
-use super::line::Fields;
+use super::line::{Bytes, Fields};
+use arrayvec::ArrayVec;
 use message::header::Header;
 use message::message_type::MessageType;
 use message::read::Expected;
 use payload::row::{Row, Value};
 use payload::table::{Table, TypeRow};
-use std::alloc::Global;
 use wire::id::{ClientId, MethodId, ServiceId, SessionId};
 
 // The bytes of a value row.
@@ -22,7 +22,7 @@ pub struct Setting {
     pub header: Header,
     pub rows: [Row; 64],
     pub lent: usize,
-    pub content: Vec<u8>,
+    pub content: Bytes,
 }
 
 // What a line may set.
@@ -143,7 +143,7 @@ fn rows_of(fields: &mut Fields) -> [Row; 64] {
 
 impl Setting {
     // What is set before the first line: as lines without bytes set it.
-    pub fn new(alloc: Global) -> Setting {
+    pub fn new() -> Setting {
         let mut none = Fields(&[]);
         Setting {
             table: table_of(&mut none),
@@ -152,13 +152,13 @@ impl Setting {
             header: header_of(&mut none),
             rows: rows_of(&mut none),
             lent: 0,
-            content: Vec::new(alloc),
+            content: ArrayVec::new(),
         }
     }
 
     // Sets an item to the bytes of its line.
-    pub fn set(&mut self, item: Item, bytes: Vec<u8>) {
-        let mut fields = Fields(&bytes);
+    pub fn set(&mut self, item: Item, bytes: &Bytes) {
+        let mut fields = Fields(bytes);
         match item {
             Item::Table => {
                 self.room = fields.byte();
@@ -170,7 +170,12 @@ impl Setting {
                 self.rows = rows_of(&mut fields);
                 self.lent = bytes.len() / RECORD;
             }
-            Item::Content => self.content = bytes,
+            Item::Content => {
+                self.content.clear();
+                let Ok(()) = self.content.try_extend_from_slice(bytes) else {
+                    unreachable!()
+                };
+            }
         }
     }
 }
