@@ -77,7 +77,7 @@ impl Fault for FileFault {
 // The most bytes that are read of a file, and one more; of hexadecimal digits.
 pub const ROOM: usize = 65536;
 
-const DIGITS_ROOM: usize = 262144;
+pub const DIGITS_ROOM: usize = 262144;
 
 // The bytes of a file, in a buffer.
 pub fn read<'b, R: Files + io::Input>(
@@ -86,6 +86,7 @@ pub fn read<'b, R: Files + io::Input>(
     content: Content,
     room: &'b mut [u8],
 ) -> Result<&'b [u8], Complaint<FileFault>>
+    ensures room { IfOk result (λ bytes. length bytes.now ≤ length room.old) }
     ensures digits { IfOk result (λ bytes. length bytes.now ≤ 262143) }
     ensures others { ¬ (content ≡ Content.Digits) → IfOk result (λ bytes. length bytes.now ≤ 65535) }
 {
@@ -98,31 +99,20 @@ pub fn read<'b, R: Files + io::Input>(
     })
 }
 
-// The datagram of a file that has it as hexadecimal digits, in a buffer. A call of its own, so that only who asks for digits has their array.
-#[inline(never)]
-fn read_digits<'b, R: Files + io::Input>(
-    inputs: &mut Inputs<'_, R>,
-    path: &[u8],
-    room: &'b mut [u8],
-) -> Result<&'b [u8], Complaint<FileFault>>
-    ensures { IfOk result (λ datagram. length datagram.now < length room.old) }
-{
-    let mut digits = [0; DIGITS_ROOM];
-    let text = read(inputs, path, Content::Digits, &mut digits)?;
-    hex::bytes_of(text, room).map_err(|fault| Complaint::of_file(fault))
-}
-
-// The datagram of a file, which has its bytes, or has them as hexadecimal digits. It is in a buffer.
+// The datagram of a file, which has its bytes, or has them as hexadecimal digits. It is in a buffer, where bytes take the digits' place.
 pub fn read_datagram<'b, R: Files + io::Input>(
     inputs: &mut Inputs<'_, R>,
     path: &[u8],
     content: Content,
-    room: &'b mut [u8; ROOM],
+    room: &'b mut [u8],
 ) -> Result<&'b [u8], Complaint<FileFault>>
     ensures { IfOk result (λ datagram. length datagram.now ≤ 65535) }
 {
     match content {
-        Content::Digits => read_digits(inputs, path, room),
+        Content::Digits => {
+            let len = read(inputs, path, content, room)?.len();
+            hex::bytes_of(&mut room[..len]).map_err(|fault| Complaint::of_file(fault))
+        }
         _ => read(inputs, path, content, room),
     }
 }

@@ -1,8 +1,8 @@
 // Bytes written as hexadecimal digits.
 
-ghost use Rattle.std.specs.Prelude.{◌<◌, IfOk, length};
+ghost use Rattle.std.specs.Prelude.{◌≤◌, IfOk, length};
 
-use super::files::{Content, FileFault};
+use super::files::{Content, FileFault, ROOM};
 
 // Whether a byte may stand between digits.
 fn is_space(b: u8) -> bool {
@@ -17,31 +17,34 @@ fn digit(b: u8) -> Result<u8, FileFault> {
     }
 }
 
-// The bytes of digits, in a buffer of which they have to leave some room. Two digits are a byte; white space may stand anywhere.
-pub fn bytes_of<'b>(text: &[u8], room: &'b mut [u8]) -> Result<&'b [u8], FileFault>
-    ensures { IfOk result (λ bytes. length bytes.now < length room.old) }
+// The bytes of digits, fewer than 65,536, which take the digits' place. Two digits are a byte; white space may stand anywhere.
+pub fn bytes_of(digits: &mut [u8]) -> Result<&[u8], FileFault>
+    ensures { IfOk result (λ bytes. length bytes.now ≤ 65535) }
 {
     let mut len = 0;
     let mut high = None;
-    for b in text.iter().filter(|b| !is_space(**b)) {
-        let low = digit(*b)?;
-        // Asked here too: too many bytes are refused before a later byte that is no digit, and before an odd number of digits.
-        if room.len() <= len {
-            return Err(FileFault::Long(Content::Datagram));
-        }
-        match high.take() {
-            Some(high) => {
-                room[len] = high << 4 | low;
-                len += 1;
+    for i in 0..digits.len() {
+        let b = digits[i];
+        if !is_space(b) {
+            let low = digit(b)?;
+            // Asked here too: too many bytes are refused before a later byte that is no digit, and before an odd number of digits.
+            if ROOM <= len {
+                return Err(FileFault::Long(Content::Datagram));
             }
-            None => high = Some(low),
+            match high.take() {
+                Some(high) => {
+                    digits[len] = high << 4 | low;
+                    len += 1;
+                }
+                None => high = Some(low),
+            }
         }
     }
     if high.is_some() {
         return Err(FileFault::OddDigits);
     }
-    if room.len() <= len {
+    if ROOM <= len {
         return Err(FileFault::Long(Content::Datagram));
     }
-    Ok(&room[..len])
+    Ok(&digits[..len])
 }

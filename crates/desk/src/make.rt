@@ -8,7 +8,6 @@ use super::verdict_word;
 use message::header::Header;
 use message::write;
 use payload::row::{Row, Value};
-use std::alloc::{AllocError, Global};
 use std::io::Write;
 use std::{fmt, io};
 use wire::id::{ClientId, SessionId};
@@ -17,7 +16,7 @@ use wire::text as wire_text;
 use wire::verdict::Verdict;
 
 // The most bytes of a message: its header and the largest payload.
-const MESSAGE_MOST: usize = 1416;
+pub const MESSAGE_MOST: usize = 1416;
 
 // What a row's value can break.
 #[derive(Clone, Copy)]
@@ -47,7 +46,6 @@ pub enum MakeFault<'a> {
         rule: Rule,
     },
     Refused(Verdict),
-    OutOfMemory,
 }
 
 impl Fault for MakeFault<'_> {
@@ -63,15 +61,7 @@ impl Fault for MakeFault<'_> {
                 verdict_word::word(*verdict),
                 verdict_word::why(*verdict)
             ),
-            MakeFault::OutOfMemory => write!(out, "out of memory"),
         }
-    }
-}
-
-// There is no room for the message.
-impl From<AllocError> for MakeFault<'_> {
-    fn from(_fault: AllocError) -> Self {
-        MakeFault::OutOfMemory
     }
 }
 
@@ -139,35 +129,39 @@ fn header(values: &Values, sheet: &Sheet<'_>) -> Header {
     }
 }
 
-// The message of values, as the writer makes it once every row fits.
-fn message<'t>(
-    alloc: Global,
+// The message of values, as the writer makes it once every row fits. It is in a buffer.
+fn message<'b, 't>(
     values: &Values,
     sheet: &Sheet<'t>,
-) -> Result<Vec<u8>, MakeFault<'t>> {
+    room: &'b mut [u8; MESSAGE_MOST],
+) -> Result<&'b [u8], MakeFault<'t>> {
     let rows = values.rows();
     rows_fit(&rows, &values.content, sheet)?;
-    let mut out = vec![in alloc; 0; MESSAGE_MOST]?;
     let written = write::write_by_value(
         header(values, sheet),
         rows,
         64,
         sheet.table(),
         &values.content,
-        &mut out,
+        room,
     );
     if written.verdict != Verdict::Accepted {
         return Err(MakeFault::Refused(written.verdict));
     }
-    out.truncate(written.len);
-    Ok(out)
+    Ok(part::part_of(
+        room,
+        Part {
+            at: 0,
+            len: written.len,
+        },
+    ))
 }
 
-// The datagram of the values of a file.
-pub fn datagram<'t>(
-    alloc: Global,
+// The datagram of the values of a file, in a buffer.
+pub fn datagram<'b, 't>(
     values: &Values,
     sheet: &Sheet<'t>,
-) -> Result<Vec<u8>, Complaint<MakeFault<'t>>> {
-    message(alloc, values, sheet).map_err(|fault| Complaint::of_file(fault))
+    room: &'b mut [u8; MESSAGE_MOST],
+) -> Result<&'b [u8], Complaint<MakeFault<'t>>> {
+    message(values, sheet, room).map_err(|fault| Complaint::of_file(fault))
 }

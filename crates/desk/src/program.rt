@@ -1,10 +1,12 @@
 // What the program does, with what it reads and writes.
 
 use super::complaint::{Complaint, Fault};
-use super::files::{self, Content, ROOM};
+use super::files::{self, Content, DIGITS_ROOM, ROOM};
+use super::make::MESSAGE_MOST;
 use super::sheet::Sheet;
 use super::tally::Tally;
-use super::{make, show, table_file, values};
+use super::values::Values;
+use super::{make, show, table_file};
 use std::io;
 use std::io::{Input, Write};
 use std::rt::{Env, Files};
@@ -15,13 +17,14 @@ use text::word;
 // What the program is asked for.
 #[derive(Clone, Copy)]
 enum Command {
-    Show(Content),
+    Show,
+    ShowHex,
     Make,
 }
 
 const COMMANDS: [(&str, Command); 3] = [
-    ("show", Command::Show(Content::Datagram)),
-    ("show-hex", Command::Show(Content::Digits)),
+    ("show", Command::Show),
+    ("show-hex", Command::ShowHex),
     ("make", Command::Make),
 ];
 
@@ -41,17 +44,15 @@ fn asked<V: Env>(arguments: &Arguments<'_, V>) -> Option<Command> {
 // The files that are read, standard output and standard error.
 #[derive(Drop)]
 pub struct Program<'a, R, O, E> {
-    rt: &'a R,
     inputs: Inputs<'a, R>,
     out: O,
     err: E,
 }
 
-impl<'a, R: Files + Input + AllocGlobal, O: Write, E: Write> Program<'a, R, O, E> {
+impl<'a, R: Files + Input, O: Write, E: Write> Program<'a, R, O, E> {
     // With nothing read or written yet.
     pub fn new(rt: &'a R, out: O, err: E) -> Program<'a, R, O, E> {
         Program {
-            rt,
             inputs: Inputs::new(rt),
             out,
             err,
@@ -92,10 +93,10 @@ impl<'a, R: Files + Input + AllocGlobal, O: Write, E: Write> Program<'a, R, O, E
         content: Content,
         is_one_of_many: bool,
         sheet: &Sheet<'_>,
+        room: &mut [u8],
         tally: &mut Tally,
     ) -> io::Result<()> {
-        let mut room = [0; ROOM];
-        let read = files::read_datagram(&mut self.inputs, path, content, &mut room);
+        let read = files::read_datagram(&mut self.inputs, path, content, room);
         let Some(datagram) = self.or_complain(path, read) else {
             tally.add_unread();
             return Ok(());
@@ -107,21 +108,22 @@ impl<'a, R: Files + Input + AllocGlobal, O: Write, E: Write> Program<'a, R, O, E
         Ok(())
     }
 
-    // Shows the datagrams that the arguments behind the table name, or the one on standard input.
+    // Shows the datagrams that the arguments behind the table name, or the one on standard input, each in the same buffer.
     fn show<V: Env>(
         &mut self,
         arguments: &Arguments<'_, V>,
         content: Content,
         sheet: &Sheet<'_>,
+        room: &mut [u8],
     ) -> io::Result<()> {
         let mut tally = Tally::new();
         let count = arguments.len();
         if count <= 3 {
-            return self.show_file(b"-", content, false, sheet, &mut tally);
+            return self.show_file(b"-", content, false, sheet, room, &mut tally);
         }
         for i in 3..count {
             let path = argument(arguments, i);
-            self.show_file(path.as_bytes(), content, 4 < count, sheet, &mut tally)?;
+            self.show_file(path.as_bytes(), content, 4 < count, sheet, room, &mut tally)?;
         }
         if 4 < count {
             // Each datagram has been shown: where this line can't be written, nothing is said.
@@ -130,20 +132,47 @@ impl<'a, R: Files + Input + AllocGlobal, O: Write, E: Write> Program<'a, R, O, E
         Ok(())
     }
 
-    // The datagram of the values in a file.
-    fn made(&mut self, path: &[u8], sheet: &Sheet<'_>) -> Option<Vec<u8>> {
-        let alloc = self.rt.alloc();
+    // Shows datagrams that have their bytes. This, the next and `make` are calls of their own, so that each has its arrays alone.
+    #[inline(never)]
+    fn show_bytes<V: Env>(
+        &mut self,
+        arguments: &Arguments<'_, V>,
+        sheet: &Sheet<'_>,
+    ) -> io::Result<()> {
+        self.show(arguments, Content::Datagram, sheet, &mut [0; ROOM])
+    }
+
+    // Shows datagrams that are hexadecimal digits.
+    #[inline(never)]
+    fn show_digits<V: Env>(
+        &mut self,
+        arguments: &Arguments<'_, V>,
+        sheet: &Sheet<'_>,
+    ) -> io::Result<()> {
+        self.show(arguments, Content::Digits, sheet, &mut [0; DIGITS_ROOM])
+    }
+
+    // The datagram of the values in a file, in a buffer.
+    fn made<'b>(
+        &mut self,
+        path: &[u8],
+        sheet: &Sheet<'_>,
+        message: &'b mut [u8; MESSAGE_MOST],
+    ) -> Option<&'b [u8]> {
         let mut room = [0; ROOM];
         let read = files::read(&mut self.inputs, path, Content::Values, &mut room);
         let text = self.or_complain(path, read)?;
-        let values = self.or_complain(path, values::read(alloc, text, sheet))?;
-        self.or_complain(path, make::datagram(alloc, &values, sheet))
+        let mut values = Values::new();
+        let read = values.read(text, sheet);
+        self.or_complain(path, read)?;
+        self.or_complain(path, make::datagram(&values, sheet, message))
     }
 
     // Makes the datagram of the values in a file.
+    #[inline(never)]
     fn make(&mut self, path: &[u8], sheet: &Sheet<'_>) -> io::Result<()> {
-        match self.made(path, sheet) {
-            Some(datagram) => self.out.write_all(&datagram),
+        match self.made(path, sheet, &mut [0; MESSAGE_MOST]) {
+            Some(datagram) => self.out.write_all(datagram),
             None => Ok(()),
         }
     }
@@ -156,7 +185,8 @@ impl<'a, R: Files + Input + AllocGlobal, O: Write, E: Write> Program<'a, R, O, E
         sheet: &Sheet<'_>,
     ) -> io::Result<()> {
         match command {
-            Command::Show(content) => self.show(arguments, content, sheet),
+            Command::Show => self.show_bytes(arguments, sheet),
+            Command::ShowHex => self.show_digits(arguments, sheet),
             Command::Make if arguments.len() <= 3 => self.make(b"-", sheet),
             Command::Make => self.make(argument(arguments, 3).as_bytes(), sheet),
         }
@@ -169,7 +199,7 @@ impl<'a, R: Files + Input + AllocGlobal, O: Write, E: Write> Program<'a, R, O, E
         let Some(text) = self.or_complain(path, read) else {
             return;
         };
-        let read = table_file::read(self.rt.alloc(), text);
+        let read = table_file::read(text);
         let Some(sheet) = self.or_complain(path, read) else {
             return;
         };

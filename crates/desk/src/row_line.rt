@@ -3,14 +3,12 @@
 use super::kind::{self, Kind, KindWord};
 use super::line;
 use super::row_fault::{KindFault, NameFault, PlaceFault};
-use super::sheet::{self, NamedRow};
+use super::sheet::{self, NamedRow, ROWS_MOST};
 use super::table_fault::TableFault;
 use std::str;
 use text::word::{self, Words};
 
-// The most rows of a table, and the most characters of a name.
-const ROWS_MOST: usize = 64;
-
+// The most characters of a name.
 const NAME_MOST: usize = 32;
 
 // The words that mean something in a line of values, so that no row can have one for a name.

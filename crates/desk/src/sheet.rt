@@ -2,8 +2,12 @@
 
 use super::kind::Kind;
 use super::setting::Width;
+use arrayvec::ArrayVec;
 use message::read::Expected;
 use payload::table::{Table, TypeRow};
+
+// The most rows of a table.
+pub const ROWS_MOST: usize = 64;
 
 // A row of the table, with its index, its name and the line that has it.
 #[derive(Clone, Copy)]
@@ -38,6 +42,21 @@ impl NamedRow<'_> {
     }
 }
 
+// What an unused place holds.
+impl Default for NamedRow<'_> {
+    fn default() -> Self {
+        NamedRow {
+            index: 0,
+            level: 0,
+            ident: 0,
+            kind: Kind::Struct,
+            required: false,
+            name: "",
+            line: 0,
+        }
+    }
+}
+
 // The row among some that has a name, its letters in either case. A row has its name in itself, where `word::named` takes pairs.
 pub fn find<'a>(rows: &[NamedRow<'a>], name: &[u8]) -> Option<NamedRow<'a>> {
     rows.iter()
@@ -50,7 +69,7 @@ pub fn find<'a>(rows: &[NamedRow<'a>], name: &[u8]) -> Option<NamedRow<'a>> {
 pub struct Sheet<'a> {
     pub expected: Expected,
     pub width: Width,
-    pub rows: Vec<NamedRow<'a>>,
+    pub rows: ArrayVec<NamedRow<'a>, ROWS_MOST>,
 }
 
 impl<'a> Sheet<'a> {

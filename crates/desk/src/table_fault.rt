@@ -4,7 +4,6 @@ use super::complaint::{Fault, quoted};
 use super::line::WordFault;
 use super::row_fault::{KindFault, NameFault, PlaceFault};
 use super::setting::{Setting, SettingFault};
-use std::alloc::AllocFailed;
 use std::io;
 use std::io::Write;
 
@@ -20,7 +19,6 @@ pub enum TableFault<'a> {
     Missing(Setting),
     NoRows,
     Unfit,
-    OutOfMemory,
 }
 
 // The words of the part's fault, or of the table's own.
@@ -46,7 +44,6 @@ impl Fault for TableFault<'_> {
                     "the table breaks a rule that no line was found to break"
                 )
             }
-            TableFault::OutOfMemory => write!(out, "out of memory"),
         }
     }
 }
@@ -79,12 +76,5 @@ impl<'a> From<NameFault<'a>> for TableFault<'a> {
 impl From<PlaceFault> for TableFault<'_> {
     fn from(fault: PlaceFault) -> Self {
         TableFault::Place(fault)
-    }
-}
-
-// There is no room for a row more.
-impl<T: Drop> From<AllocFailed<T>> for TableFault<'_> {
-    fn from(_fault: AllocFailed<T>) -> Self {
-        TableFault::OutOfMemory
     }
 }

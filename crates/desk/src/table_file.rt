@@ -5,14 +5,15 @@
 
 use super::complaint::Complaint;
 use super::line::{self, WordFault};
+use super::row_fault::PlaceFault;
 use super::row_line;
 use super::setting::{self, Setting, SettingFault, Width};
-use super::sheet::{NamedRow, Sheet};
+use super::sheet::{NamedRow, ROWS_MOST, Sheet};
 use super::table_fault::TableFault;
+use arrayvec::ArrayVec;
 use message::message_type::MessageType;
 use message::read::Expected;
 use payload::table;
-use std::alloc::Global;
 use text::word::{self, Words};
 use wire::id::{MethodId, ServiceId};
 
@@ -31,19 +32,19 @@ struct Draft<'a> {
     interface: Option<Set<u8>>,
     kind: Option<Set<MessageType>>,
     width: Option<Set<Width>>,
-    rows: Vec<NamedRow<'a>>,
+    rows: ArrayVec<NamedRow<'a>, ROWS_MOST>,
 }
 
 impl<'a> Draft<'a> {
     // Before the first line.
-    fn new(alloc: Global) -> Draft<'a> {
+    fn new() -> Draft<'a> {
         Draft {
             service: None,
             method: None,
             interface: None,
             kind: None,
             width: None,
-            rows: Vec::new(alloc),
+            rows: ArrayVec::new(),
         }
     }
 
@@ -111,7 +112,7 @@ impl<'a> Draft<'a> {
             None => Ok(()),
             Some([b'0'..=b'9', ..]) => {
                 let row = row_line::read(line, words, &self.rows)?;
-                self.rows.push(row)?;
+                self.rows.try_push(row).map_err(|_| PlaceFault::ManyRows)?;
                 Ok(())
             }
             Some(word) => self.read_setting(line, word, behind),
@@ -162,8 +163,8 @@ fn checked<'a>(sheet: Sheet<'a>) -> Result<Sheet<'a>, TableFault<'a>> {
 }
 
 // The lines of a text, up to the first that is wrong. A generic one for values too would need a closure, and be no shorter.
-fn read_lines<'a>(alloc: Global, text: &'a [u8]) -> Result<Draft<'a>, Complaint<TableFault<'a>>> {
-    let mut draft = Draft::new(alloc);
+fn read_lines<'a>(text: &'a [u8]) -> Result<Draft<'a>, Complaint<TableFault<'a>>> {
+    let mut draft = Draft::new();
     for (before, words) in text.split(|b| *b == b'\n').enumerate() {
         let line = before + 1;
         draft
@@ -174,8 +175,8 @@ fn read_lines<'a>(alloc: Global, text: &'a [u8]) -> Result<Draft<'a>, Complaint<
 }
 
 // The sheet of a table file's text.
-pub fn read<'a>(alloc: Global, text: &'a [u8]) -> Result<Sheet<'a>, Complaint<TableFault<'a>>> {
-    read_lines(alloc, text)?
+pub fn read<'a>(text: &'a [u8]) -> Result<Sheet<'a>, Complaint<TableFault<'a>>> {
+    read_lines(text)?
         .finish()
         .map_err(|fault| Complaint::of_file(fault))
 }

@@ -3,13 +3,14 @@
 use super::kind::{Form, Kind, Scalar};
 use super::value_fault::{ContentFault, ValueFault};
 use super::{line, number};
+use arrayvec::ArrayVec;
 use payload::row::{Row, Value};
 use text::number as text_number;
 use text::quote::{self, QuoteError};
 use text::word::Words;
 
 // The most bytes of content: texts and arrays of all rows.
-const CONTENT_MOST: usize = 65536;
+pub const CONTENT_MOST: usize = 65536;
 
 // The words that show puts before a number.
 const LEADS: [&str; 5] = ["unsigned", "signed", "float32", "float64", "bits"];
@@ -64,12 +65,14 @@ fn quote_fault(fault: QuoteError, word: &[u8]) -> ValueFault<'_> {
         QuoteError::Open => ContentFault::Open(word),
         QuoteError::Escape => ContentFault::NoEscape(word),
         QuoteError::TooLong => ContentFault::LongText(word),
-        QuoteError::OutOfMemory => return ValueFault::OutOfMemory,
     })
 }
 
 // A text, put behind the content.
-fn read_text<'a>(content: &mut Vec<u8>, words: Words<'a>) -> Result<Row, ValueFault<'a>> {
+fn read_text<'a>(
+    content: &mut ArrayVec<u8, CONTENT_MOST>,
+    words: Words<'a>,
+) -> Result<Row, ValueFault<'a>> {
     let mut words = without_place(words);
     let word = line::next_word(&mut words);
     if word.first() != Some(&b'"') {
@@ -77,23 +80,22 @@ fn read_text<'a>(content: &mut Vec<u8>, words: Words<'a>) -> Result<Row, ValueFa
     }
     line::ends(words)?;
     let place = content.len();
-    quote::read(word, content, CONTENT_MOST).map_err(|fault| quote_fault(fault, word))?;
+    quote::read(word, content).map_err(|fault| quote_fault(fault, word))?;
     Ok(run(place, content))
 }
 
 // An array's elements, put behind the content.
 fn read_array<'a>(
-    content: &mut Vec<u8>,
+    content: &mut ArrayVec<u8, CONTENT_MOST>,
     element: Scalar,
     words: Words<'a>,
 ) -> Result<Row, ValueFault<'a>> {
     let place = content.len();
     for word in without_place(words) {
         let bytes = number::read(word, element)?.bits().to_be_bytes();
-        if CONTENT_MOST < content.len().saturating_add(element.size()) {
-            return Err(ValueFault::Content(ContentFault::LongArray));
-        }
-        content.extend_from_slice(&bytes[8 - element.size()..])?;
+        content
+            .try_extend_from_slice(&bytes[8 - element.size()..])
+            .map_err(|_| ValueFault::Content(ContentFault::LongArray))?;
     }
     Ok(run(place, content))
 }
@@ -109,7 +111,7 @@ fn read_struct(words: Words<'_>) -> Result<Row, ValueFault<'_>> {
 
 // The value of a row of a kind. Texts and arrays go behind the content.
 pub fn read<'a>(
-    content: &mut Vec<u8>,
+    content: &mut ArrayVec<u8, CONTENT_MOST>,
     kind: Kind,
     words: Words<'a>,
 ) -> Result<Row, ValueFault<'a>> {

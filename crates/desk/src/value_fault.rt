@@ -2,7 +2,6 @@
 
 use super::complaint::{Fault, quoted};
 use super::line::WordFault;
-use std::alloc::{AllocError, AllocFailed};
 use std::io;
 use std::io::Write;
 
@@ -126,7 +125,6 @@ pub enum ValueFault<'a> {
     Number(NumberFault<'a>),
     Content(ContentFault<'a>),
     Target(TargetFault<'a>),
-    OutOfMemory,
 }
 
 impl Fault for ValueFault<'_> {
@@ -136,7 +134,6 @@ impl Fault for ValueFault<'_> {
             ValueFault::Number(fault) => fault.write(out),
             ValueFault::Content(fault) => fault.write(out),
             ValueFault::Target(fault) => fault.write(out),
-            ValueFault::OutOfMemory => write!(out, "out of memory"),
         }
     }
 }
@@ -151,18 +148,5 @@ impl<'a> From<WordFault<'a>> for ValueFault<'a> {
 impl<'a> From<NumberFault<'a>> for ValueFault<'a> {
     fn from(fault: NumberFault<'a>) -> ValueFault<'a> {
         ValueFault::Number(fault)
-    }
-}
-
-// There is no room for a value more, or for its content.
-impl From<AllocError> for ValueFault<'_> {
-    fn from(_fault: AllocError) -> Self {
-        ValueFault::OutOfMemory
-    }
-}
-
-impl<T: Drop> From<AllocFailed<T>> for ValueFault<'_> {
-    fn from(_fault: AllocFailed<T>) -> Self {
-        ValueFault::OutOfMemory
     }
 }

@@ -7,30 +7,30 @@
 // Rows without a line are absent.
 
 use super::complaint::Complaint;
-use super::sheet::{NamedRow, Sheet};
+use super::sheet::{NamedRow, ROWS_MOST, Sheet};
+use super::value::CONTENT_MOST;
 use super::value_fault::{TargetFault, ValueFault};
 use super::{line, value};
+use arrayvec::ArrayVec;
 use payload::row::Row;
-use std::alloc::Global;
 use text::number as text_number;
 use text::word::{self, Words};
 
 // A row's value, and the line that gives it.
 #[derive(Clone, Copy)]
 struct Given {
-    index: usize,
     line: usize,
     row: Row,
 }
 
-// What the lines up to one have said: the header's three fields, the rows' values, and their content.
+// What the lines up to one have said: the header's three fields, the value of each row that has one, and their content.
 #[derive(Drop)]
 pub struct Values {
     pub client: u16,
     pub session: u16,
     pub code: u8,
-    given: Vec<Given>,
-    pub content: Vec<u8>,
+    given: [Option<Given>; ROWS_MOST],
+    pub content: ArrayVec<u8, CONTENT_MOST>,
 }
 
 // What a line is for by its first word, where that names no row.
@@ -115,25 +115,20 @@ fn read_verdict(mut words: Words<'_>) -> Result<(), ValueFault<'_>> {
 
 impl Values {
     // Before the first line.
-    fn new(alloc: Global) -> Values {
+    pub fn new() -> Values {
         Values {
             client: 0,
             session: 0,
             code: 0,
-            given: Vec::new(alloc),
-            content: Vec::new(alloc),
+            given: [None; ROWS_MOST],
+            content: ArrayVec::new(),
         }
     }
 
     // The rows of the table, in the form that the library takes. Those that no line gives are absent.
     pub fn rows(&self) -> [Row; 64] {
-        let mut rows = [Row::ABSENT; 64];
-        for given in &self.given {
-            if let Some(row) = rows.get_mut(given.index) {
-                *row = given.row;
-            }
-        }
-        rows
+        self.given
+            .map(|given| given.map_or(Row::ABSENT, |given| given.row))
     }
 
     // Takes a field of the header.
@@ -172,15 +167,15 @@ impl Values {
         row: NamedRow<'_>,
         words: Words<'a>,
     ) -> Result<(), ValueFault<'a>> {
-        if let Some(before) = self.given.iter().find(|given| given.index == row.index) {
+        // Each row of a sheet has a place.
+        let Some(place) = self.given.get_mut(row.index) else {
+            return Ok(());
+        };
+        if let Some(before) = place {
             return Err(ValueFault::Target(TargetFault::Given(before.line)));
         }
         let value = value::read(&mut self.content, row.kind, words)?;
-        self.given.push(Given {
-            index: row.index,
-            line,
-            row: value,
-        })?;
+        *place = Some(Given { line, row: value });
         Ok(())
     }
 
@@ -204,21 +199,19 @@ impl Values {
             }
         }
     }
-}
 
-// The values of a text, for the rows of a sheet. The lines of a table file go the same way: one function for both would need a closure,
-// and be no shorter.
-pub fn read<'a>(
-    alloc: Global,
-    text: &'a [u8],
-    sheet: &Sheet<'_>,
-) -> Result<Values, Complaint<ValueFault<'a>>> {
-    let mut values = Values::new(alloc);
-    for (before, words) in text.split(|b| *b == b'\n').enumerate() {
-        let line = before + 1;
-        values
-            .read_line(line, Words::new(words), sheet)
-            .map_err(|fault| Complaint::of_line(line, fault))?;
+    // Takes the lines of a text, for the rows of a sheet. The lines of a table file go the same way: one function for both would need a
+    // closure, and be no shorter.
+    pub fn read<'a>(
+        &mut self,
+        text: &'a [u8],
+        sheet: &Sheet<'_>,
+    ) -> Result<(), Complaint<ValueFault<'a>>> {
+        for (before, words) in text.split(|b| *b == b'\n').enumerate() {
+            let line = before + 1;
+            self.read_line(line, Words::new(words), sheet)
+                .map_err(|fault| Complaint::of_line(line, fault))?;
+        }
+        Ok(())
     }
-    Ok(values)
 }

@@ -3,11 +3,11 @@
 // Printed as they are: characters from the blank on but quotation mark, backslash and delete; of more bytes, those that Unicode has but the
 // control characters. All other bytes are escaped: \" \\ \n \r \t, or \x and two hexadecimal digits.
 
-ghost use Rattle.std.specs.Prelude.{◌≡◌, ◌≤◌, ◌<◌, length, max, vec_len};
+ghost use Rattle.std.specs.Prelude.{◌≡◌, ◌≤◌, ◌<◌, length, max};
 ghost use Rattle.std.specs.Io.{StartsWith};
-ghost use Rattle.text.specs.declared.quote.QuoteError.TheVariants.{OutOfMemory};
+ghost use Rattle.arrayvec.specs.ArrayVec.{array_vec_len};
 
-use std::alloc::AllocFailed;
+use arrayvec::ArrayVec;
 use std::io;
 use std::io::Write;
 
@@ -81,15 +81,6 @@ pub enum QuoteError {
     Open,
     Escape,
     TooLong,
-    OutOfMemory,
-}
-
-impl<T: Drop> From<AllocFailed<T>> for QuoteError {
-    ghost from_gives = { λ _ why. why ≡ OutOfMemory };
-
-    fn from(_why: AllocFailed<T>) -> QuoteError {
-        QuoteError::OutOfMemory
-    }
 }
 
 // The byte of two hexadecimal digits.
@@ -113,10 +104,13 @@ fn escape(text: &[u8]) -> Option<(u8, &[u8])>
     }
 }
 
-// Puts the text of a quotation, which begins with its mark, behind a content that may have at most so many bytes. Where there is none, the
+// Puts the text of a quotation, which begins with its mark, behind a content that has room for so many bytes. Where there is none, the
 // content has a part of it.
-pub fn read(quotation: &[u8], content: &mut Vec<u8>, most: usize) -> Result<(), QuoteError>
-    ensures bound { vec_len content.new ≤ max most (vec_len content.old) }
+pub fn read<const N: usize>(
+    quotation: &[u8],
+    content: &mut ArrayVec<u8, N>,
+) -> Result<(), QuoteError>
+    ensures bound { array_vec_len content.new ≤ max N (array_vec_len content.old) }
     ensures kept { StartsWith content.new.items content.old.items }
 {
     let mut rest = quotation.get(1..).unwrap_or(&[]);
@@ -124,14 +118,14 @@ pub fn read(quotation: &[u8], content: &mut Vec<u8>, most: usize) -> Result<(), 
         if *first == b'"' {
             return Ok(());
         }
-        if most <= content.len() {
+        if N <= content.len() {
             return Err(QuoteError::TooLong);
         }
         let (byte, behind) = match first {
             b'\\' => escape(behind).ok_or(QuoteError::Escape)?,
             _ => (*first, behind),
         };
-        content.push(byte)?;
+        content.push(byte);
         rest = behind;
     }
     Err(QuoteError::Open)
