@@ -2,9 +2,9 @@
 
 ghost use Rattle.std.specs.Prelude.{◌≤◌, IfOk};
 
-use super::complaint::{Complaint, Of};
+use super::complaint::{Complaint, Said, or_say};
 use super::reason::Asked;
-use super::store::Adding;
+use std::io::Write;
 use std::rt::Env;
 use text::argument::{Argument, Arguments};
 use text::number::NumberError;
@@ -36,7 +36,7 @@ const NAMES: [(&str, Name); 7] = [
 ];
 
 // A command with what it is asked of.
-#[derive(Drop)]
+#[derive(Clone, Copy)]
 pub enum Command<'a> {
     List {
         archive: &'a [u8],
@@ -47,16 +47,18 @@ pub enum Command<'a> {
         asked: Asked,
         with_line: bool,
     },
-    Add(Adding<'a>),
+    Add {
+        archive: &'a [u8],
+    },
 }
 
 // The words of a command line that say what is asked: the command's name, its archive and the next, none where it is missing; and how many
-// there are.
+// there are. Of these only the archive's is needed behind the line.
 #[derive(Clone, Copy)]
-pub struct Line<'a> {
-    pub name: &'a [u8],
+pub struct Line<'a, 'w> {
+    pub name: &'w [u8],
     pub archive: &'a [u8],
-    pub next: &'a [u8],
+    pub next: &'w [u8],
     pub count: usize,
 }
 
@@ -71,8 +73,27 @@ pub fn long_argument<E: Env>(arguments: &Arguments<'_, E>) -> Option<usize> {
     (1..arguments.len()).find(|index| arguments.is_longer(*index))
 }
 
+// The command of the arguments with an archive, or what is wrong with them, which is said. A call of its own, so that the words that are
+// needed for this alone take no room in its caller's frame.
+#[inline(never)]
+pub fn asked<'a, E: Env>(
+    arguments: &Arguments<'_, E>,
+    archive: &'a [u8],
+    err: &mut impl Write,
+) -> Result<Command<'a>, Said> {
+    let name = argument(arguments, 1);
+    let next = argument(arguments, 3);
+    let line = Line {
+        name: name.as_bytes(),
+        archive,
+        next: next.as_bytes(),
+        count: arguments.len().saturating_sub(1),
+    };
+    or_say(parse(line), err)
+}
+
 // The command that a line says.
-pub fn parse(line: Line<'_>) -> Result<Command<'_>, Complaint<'_>> {
+pub fn parse<'a, 'w>(line: Line<'a, 'w>) -> Result<Command<'a>, Complaint<'w>> {
     let archive = line.archive;
     match (word::named(&NAMES, line.name), line.count) {
         (Some(Name::List), 2) => Ok(Command::List { archive }),
@@ -87,7 +108,7 @@ pub fn parse(line: Line<'_>) -> Result<Command<'_>, Complaint<'_>> {
             asked: by_session(line.next)?,
             with_line,
         }),
-        (Some(Name::Add), 3..) => Ok(Command::Add(Adding::new(archive).of(archive)?)),
+        (Some(Name::Add), 3..) => Ok(Command::Add { archive }),
         _ => Err(Complaint::Usage),
     }
 }
@@ -130,6 +151,6 @@ mod tests {
             next: b"1",
             count: 3,
         };
-        assert!(rt; matches!(parse(line), Ok(Command::Add(_))));
+        assert!(rt; matches!(parse(line), Ok(Command::Add { .. })));
     }
 }

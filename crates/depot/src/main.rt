@@ -22,12 +22,13 @@ mod store;
 mod trailer;
 
 use archive::open::Opening;
-use command::{ARCHIVES_AT, Command, Line};
-use complaint::{Complaint, Fault, Of};
+use command::{ARCHIVES_AT, Command};
+use complaint::{Complaint, Fault, Of, or_say};
 use layout::ROOM;
 use reason::Asked;
 use std::io::Write;
 use std::rt::{Env, Files};
+use store::Adding;
 use text::argument::Arguments;
 use text::file::Inputs;
 
@@ -95,10 +96,25 @@ fn take<'a, R: Files + Input>(
     show::take(out, file, found, with_line).map_err(|_| Complaint::Output)
 }
 
+// Adds files to an archive. What goes wrong in that is said here, where there is the name of the new file.
+#[inline(never)]
+fn add<'a, R: Files + Input, V: Env>(
+    rt: &R,
+    archive: &'a [u8],
+    arguments: &Arguments<'_, V>,
+    err: &mut impl Write,
+) -> Result<(), Complaint<'a>> {
+    let adding = Adding::new(archive).of(archive)?;
+    if let Err(complaint) = adding.run(rt, arguments, err) {
+        complaint.say(err);
+    }
+    Ok(())
+}
+
 // Does what is asked for.
 fn run<'a, R: Files + Input, V: Env>(
     rt: &R,
-    command: &'a Command<'a>,
+    command: Command<'a>,
     arguments: &Arguments<'_, V>,
     out: &mut impl Write,
     err: &mut impl Write,
@@ -110,8 +126,8 @@ fn run<'a, R: Files + Input, V: Env>(
             archive,
             asked,
             with_line,
-        } => take(rt, archive, *asked, *with_line, out),
-        Command::Add(adding) => adding.run(rt, arguments, err),
+        } => take(rt, archive, asked, with_line, out),
+        Command::Add { archive } => add(rt, archive, arguments, err),
     }
 }
 
@@ -122,22 +138,9 @@ fn answer<R: Files + Input, V: Env>(
     out: &mut impl Write,
     err: &mut impl Write,
 ) {
-    let name = command::argument(arguments, 1);
     let archive = command::argument(arguments, 2);
-    let next = command::argument(arguments, 3);
-    let line = Line {
-        name: name.as_bytes(),
-        archive: archive.as_bytes(),
-        next: next.as_bytes(),
-        count: arguments.len().saturating_sub(1),
-    };
-    match command::parse(line) {
-        Ok(command) => {
-            if let Err(complaint) = run(rt, &command, arguments, out, err) {
-                complaint.say(err);
-            }
-        }
-        Err(complaint) => complaint.say(err),
+    if let Ok(command) = command::asked(arguments, archive.as_bytes(), err) {
+        let _ = or_say(run(rt, command, arguments, out, err), err);
     }
 }
 

@@ -34,7 +34,7 @@ impl<'a, R: Files + Input> Inputs<'a, R> {
         ensures standard { path.now ≡ codes "-" → IfOk result (λ start. IsStartOfOne R.Reader.remaining (length buf.old) start.now) }
     {
         if path == b"-".as_slice() {
-            return input::read_start(self.standard()?, buf);
+            return self.standard_start(buf);
         }
         input::read_start(open(self.rt, path)?, buf)
     }
@@ -48,9 +48,29 @@ impl<'a, R: Files + Input> Inputs<'a, R> {
         ensures standard_too_long { path.now ≡ codes "-" → result ≡ Err InputError.TooLong → OneFills R.Reader.remaining (length buf.old) }
     {
         if path == b"-".as_slice() {
-            return input::read_whole(self.standard()?, buf);
+            return self.standard_whole(buf);
         }
         Ok(input::read_whole(open(self.rt, path)?, buf)?)
+    }
+
+    // The first bytes of standard input. This and the next are calls of their own, for the buffer that the reader has would lie in the frame
+    // of who reads a file.
+    #[inline(never)]
+    fn standard_start<'b>(&mut self, buf: &'b mut [u8]) -> io::Result<&'b [u8]>
+        ensures bound { IfOk result (λ start. length start.now ≤ length buf.old) }
+        ensures standard { IfOk result (λ start. IsStartOfOne R.Reader.remaining (length buf.old) start.now) }
+    {
+        input::read_start(self.standard()?, buf)
+    }
+
+    // The whole of standard input, which has to leave some of a buffer's room.
+    #[inline(never)]
+    fn standard_whole<'b>(&mut self, buf: &'b mut [u8]) -> Result<&'b [u8], InputError>
+        ensures bound { IfOk result (λ whole. length whole.now < length buf.old) }
+        ensures standard { IfOk result (λ whole. IsWholeOfOne R.Reader.remaining whole.now) }
+        ensures too_long { result ≡ Err InputError.TooLong → OneFills R.Reader.remaining (length buf.old) }
+    {
+        input::read_whole(self.standard()?, buf)
     }
 
     // Standard input, which can't be read twice.
