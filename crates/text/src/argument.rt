@@ -76,10 +76,7 @@ impl<'a, E: Env> Arguments<'a, E> {
     pub fn get(&self, i: usize) -> Option<Argument>
         ensures { OnSome result (i < self.now.count) }
     {
-        match self.read(i) {
-            Ok(argument) => Some(argument),
-            Err(_) => None,
-        }
+        self.read(i).ok()
     }
 
     // Whether there is an argument that is too long.
