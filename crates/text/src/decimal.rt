@@ -128,7 +128,7 @@ pub fn bits<F: Float>(word: &[u8]) -> Result<u64, DecimalError>
     }
     let text = str::from_utf8(word).map_err(|_| DecimalError::NotADecimal)?;
     let float = text.parse::<F>().map_err(|_| DecimalError::NotADecimal)?;
-    float.finite_bits().ok_or(DecimalError::TooLarge)
+    Ok(float.finite_bits().ok_or(DecimalError::TooLarge)?)
 }
 
 // A finite float from 0 on, printed by the fewest digits that are read back as the same float: plain from 0.00001 up to 17 digits before

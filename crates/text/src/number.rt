@@ -43,7 +43,7 @@ fn behind_prefix(word: &[u8]) -> Option<&[u8]>
     ensures digits { IfSome result (λ digits. digits.now ≡ drop 2 word.now) }
 {
     match word {
-        [b'0', b'x' | b'X', digits @ ..] => Some(digits),
+        [b'0', mark, digits @ ..] if mark.eq_ignore_ascii_case(&b'x') => Some(digits),
         _ => None,
     }
 }
