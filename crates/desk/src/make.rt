@@ -77,7 +77,7 @@ fn text_fits(kind: Kind, value: Value, content: &[u8]) -> bool {
 }
 
 // A row's value keeps its rules, where the levels up to `opened` are present.
-fn row_fits(named: &NamedRow<'_>, row: Row, opened: u8, content: &[u8]) -> Result<(), Rule> {
+fn row_fits(named: &NamedRow, row: Row, opened: u8, content: &[u8]) -> Result<(), Rule> {
     let is_absent = row.is_absent();
     if opened < named.level {
         return if is_absent { Ok(()) } else { Err(Rule::Inside) };
@@ -92,7 +92,7 @@ fn row_fits(named: &NamedRow<'_>, row: Row, opened: u8, content: &[u8]) -> Resul
 }
 
 // The levels that are present behind a row, where those up to `opened` are before it: one more than a present struct's, else the row's own.
-fn opened_by(named: &NamedRow<'_>, row: Row, opened: u8) -> u8 {
+fn opened_by(named: &NamedRow, row: Row, opened: u8) -> u8 {
     if opened < named.level {
         return opened;
     }
@@ -103,12 +103,12 @@ fn opened_by(named: &NamedRow<'_>, row: Row, opened: u8) -> u8 {
 }
 
 // Every row's value keeps its rules.
-fn rows_fit<'t>(rows: &[Row], content: &[u8], sheet: &Sheet<'t>) -> Result<(), MakeFault<'t>> {
+fn rows_fit<'t>(rows: &[Row], content: &[u8], sheet: &'t Sheet) -> Result<(), MakeFault<'t>> {
     let mut opened = 1;
     for (before, (named, row)) in sheet.rows.iter().zip(rows).enumerate() {
         row_fits(named, *row, opened, content).map_err(|rule| MakeFault::Row {
             number: before + 1,
-            name: named.name,
+            name: named.name.as_str(),
             rule,
         })?;
         opened = opened_by(named, *row, opened);
@@ -117,7 +117,7 @@ fn rows_fit<'t>(rows: &[Row], content: &[u8], sheet: &Sheet<'t>) -> Result<(), M
 }
 
 // The header: what the table expects, and what the values say.
-fn header(values: &Values, sheet: &Sheet<'_>) -> Header {
+fn header(values: &Values, sheet: &Sheet) -> Header {
     Header {
         service: sheet.expected.service,
         method: sheet.expected.method,
@@ -132,7 +132,7 @@ fn header(values: &Values, sheet: &Sheet<'_>) -> Header {
 // The message of values, as the writer makes it once every row fits. It is in a buffer.
 fn message<'b, 't>(
     values: &Values,
-    sheet: &Sheet<'t>,
+    sheet: &'t Sheet,
     room: &'b mut [u8; MESSAGE_MOST],
 ) -> Result<&'b [u8], MakeFault<'t>> {
     let rows = values.rows();
@@ -160,7 +160,7 @@ fn message<'b, 't>(
 // The datagram of the values of a file, in a buffer.
 pub fn datagram<'b, 't>(
     values: &Values,
-    sheet: &Sheet<'t>,
+    sheet: &'t Sheet,
     room: &'b mut [u8; MESSAGE_MOST],
 ) -> Result<&'b [u8], Complaint<MakeFault<'t>>> {
     message(values, sheet, room).map_err(|fault| Complaint::of_file(fault))

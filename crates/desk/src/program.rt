@@ -79,6 +79,15 @@ impl<'a, R: Files + Input, O: Write, E: Write> Program<'a, R, O, E> {
         }
     }
 
+    // The sheet of a table file. This, `show_bytes`, `show_digits` and `make` are calls of their own: no two have their arrays at once.
+    #[inline(never)]
+    fn sheet(&mut self, path: &[u8]) -> Option<Sheet> {
+        let mut room = [0; ROOM];
+        let read = files::read(&mut self.inputs, path, Content::Table, &mut room);
+        let text = self.or_complain(path, read)?;
+        self.or_complain(path, table_file::read(text))
+    }
+
     // The line that says which datagram follows, where there are several.
     fn title(&mut self, path: &[u8]) -> io::Result<()> {
         self.out.write_all(b"== ")?;
@@ -92,7 +101,7 @@ impl<'a, R: Files + Input, O: Write, E: Write> Program<'a, R, O, E> {
         path: &[u8],
         content: Content,
         is_one_of_many: bool,
-        sheet: &Sheet<'_>,
+        sheet: &Sheet,
         room: &mut [u8],
         tally: &mut Tally,
     ) -> io::Result<()> {
@@ -113,7 +122,7 @@ impl<'a, R: Files + Input, O: Write, E: Write> Program<'a, R, O, E> {
         &mut self,
         arguments: &Arguments<'_, V>,
         content: Content,
-        sheet: &Sheet<'_>,
+        sheet: &Sheet,
         room: &mut [u8],
     ) -> io::Result<()> {
         let mut tally = Tally::new();
@@ -132,12 +141,12 @@ impl<'a, R: Files + Input, O: Write, E: Write> Program<'a, R, O, E> {
         Ok(())
     }
 
-    // Shows datagrams that have their bytes. This, the next and `make` are calls of their own, so that each has its arrays alone.
+    // Shows datagrams that have their bytes.
     #[inline(never)]
     fn show_bytes<V: Env>(
         &mut self,
         arguments: &Arguments<'_, V>,
-        sheet: &Sheet<'_>,
+        sheet: &Sheet,
     ) -> io::Result<()> {
         self.show(arguments, Content::Datagram, sheet, &mut [0; ROOM])
     }
@@ -147,7 +156,7 @@ impl<'a, R: Files + Input, O: Write, E: Write> Program<'a, R, O, E> {
     fn show_digits<V: Env>(
         &mut self,
         arguments: &Arguments<'_, V>,
-        sheet: &Sheet<'_>,
+        sheet: &Sheet,
     ) -> io::Result<()> {
         self.show(arguments, Content::Digits, sheet, &mut [0; DIGITS_ROOM])
     }
@@ -156,7 +165,7 @@ impl<'a, R: Files + Input, O: Write, E: Write> Program<'a, R, O, E> {
     fn made<'b>(
         &mut self,
         path: &[u8],
-        sheet: &Sheet<'_>,
+        sheet: &Sheet,
         message: &'b mut [u8; MESSAGE_MOST],
     ) -> Option<&'b [u8]> {
         let mut room = [0; ROOM];
@@ -170,7 +179,7 @@ impl<'a, R: Files + Input, O: Write, E: Write> Program<'a, R, O, E> {
 
     // Makes the datagram of the values in a file.
     #[inline(never)]
-    fn make(&mut self, path: &[u8], sheet: &Sheet<'_>) -> io::Result<()> {
+    fn make(&mut self, path: &[u8], sheet: &Sheet) -> io::Result<()> {
         match self.made(path, sheet, &mut [0; MESSAGE_MOST]) {
             Some(datagram) => self.out.write_all(datagram),
             None => Ok(()),
@@ -182,7 +191,7 @@ impl<'a, R: Files + Input, O: Write, E: Write> Program<'a, R, O, E> {
         &mut self,
         command: Command,
         arguments: &Arguments<'_, V>,
-        sheet: &Sheet<'_>,
+        sheet: &Sheet,
     ) -> io::Result<()> {
         match command {
             Command::Show => self.show_bytes(arguments, sheet),
@@ -194,13 +203,7 @@ impl<'a, R: Files + Input, O: Write, E: Write> Program<'a, R, O, E> {
 
     // Does what is asked under the table of a file.
     fn run_under<V: Env>(&mut self, command: Command, path: &[u8], arguments: &Arguments<'_, V>) {
-        let mut room = [0; ROOM];
-        let read = files::read(&mut self.inputs, path, Content::Table, &mut room);
-        let Some(text) = self.or_complain(path, read) else {
-            return;
-        };
-        let read = table_file::read(text);
-        let Some(sheet) = self.or_complain(path, read) else {
+        let Some(sheet) = self.sheet(path) else {
             return;
         };
         if self.follow(command, arguments, &sheet).is_err() {

@@ -3,13 +3,11 @@
 use super::kind::{self, Kind, KindWord};
 use super::line;
 use super::row_fault::{KindFault, NameFault, PlaceFault};
-use super::sheet::{self, NamedRow, ROWS_MOST};
+use super::sheet::{self, NAME_MOST, NamedRow, ROWS_MOST};
 use super::table_fault::TableFault;
+use arrayvec::{ArrayString, ArrayVec};
 use std::str;
 use text::word::{self, Words};
-
-// The most characters of a name.
-const NAME_MOST: usize = 32;
 
 // The words that mean something in a line of values, so that no row can have one for a name.
 const TAKEN: [&str; 9] = [
@@ -51,7 +49,7 @@ fn is_name(text: &str) -> bool {
 }
 
 // The name that a word is.
-fn read_name(word: &[u8]) -> Result<&str, NameFault<'_>> {
+fn read_name(word: &[u8]) -> Result<ArrayString<NAME_MOST>, NameFault<'_>> {
     if word.is_empty() {
         return Err(NameFault::Missing);
     }
@@ -65,34 +63,11 @@ fn read_name(word: &[u8]) -> Result<&str, NameFault<'_>> {
     if line::is_one_of(&TAKEN, word) {
         return Err(NameFault::Taken(word));
     }
-    Ok(name)
-}
-
-// The row of a line's words.
-fn read_row<'a>(
-    index: usize,
-    line: usize,
-    mut words: Words<'a>,
-) -> Result<NamedRow<'a>, TableFault<'a>> {
-    let level = line::number("level", line::next_word(&mut words), 4)? as u8;
-    let ident = line::number("Data ID", line::next_word(&mut words), 4095)? as u16;
-    let kind = read_kind(&mut words)?;
-    let required = is_required(line::next_word(&mut words))?;
-    let name = read_name(line::next_word(&mut words))?;
-    line::ends(words)?;
-    Ok(NamedRow {
-        index,
-        level,
-        ident,
-        kind,
-        required,
-        name,
-        line,
-    })
+    ArrayString::from(name).map_err(|_| NameFault::Long(word))
 }
 
 // A level may stand behind the rows before it.
-fn level_fits(level: u8, before: &[NamedRow<'_>]) -> Result<(), PlaceFault> {
+fn level_fits(level: u8, before: &[NamedRow]) -> Result<(), PlaceFault> {
     if level == 0 {
         return Err(PlaceFault::Level0);
     }
@@ -108,7 +83,7 @@ fn level_fits(level: u8, before: &[NamedRow<'_>]) -> Result<(), PlaceFault> {
 }
 
 // A row's Data ID is no other's among the members of its struct, or among the rows of level 1.
-fn ident_fits(row: &NamedRow<'_>, before: &[NamedRow<'_>]) -> Result<(), PlaceFault> {
+fn ident_fits(row: &NamedRow, before: &[NamedRow]) -> Result<(), PlaceFault> {
     let twin = before
         .iter()
         .rev()
@@ -124,7 +99,7 @@ fn ident_fits(row: &NamedRow<'_>, before: &[NamedRow<'_>]) -> Result<(), PlaceFa
 }
 
 // A row may stand behind the rows before it.
-fn place_fits(row: &NamedRow<'_>, before: &[NamedRow<'_>]) -> Result<(), PlaceFault> {
+fn place_fits(row: &NamedRow, before: &[NamedRow]) -> Result<(), PlaceFault> {
     level_fits(row.level, before)?;
     if row.kind == Kind::Struct && 3 < row.level {
         return Err(PlaceFault::StructLevel);
@@ -132,19 +107,35 @@ fn place_fits(row: &NamedRow<'_>, before: &[NamedRow<'_>]) -> Result<(), PlaceFa
     ident_fits(row, before)
 }
 
-// Reads a row's line, behind the rows before it.
+// Reads a row's line, and puts the row behind those before it.
 pub fn read<'a>(
     line: usize,
-    words: Words<'a>,
-    before: &[NamedRow<'a>],
-) -> Result<NamedRow<'a>, TableFault<'a>> {
-    if ROWS_MOST <= before.len() {
+    mut words: Words<'a>,
+    rows: &mut ArrayVec<NamedRow, ROWS_MOST>,
+) -> Result<(), TableFault<'a>> {
+    if rows.is_full() {
         return Err(TableFault::Place(PlaceFault::ManyRows));
     }
-    let row = read_row(before.len(), line, words)?;
-    place_fits(&row, before)?;
-    match sheet::find(before, row.name.as_bytes()) {
-        Some(other) => Err(TableFault::Twice(row.name.as_bytes(), other.line)),
-        None => Ok(row),
+    let level = line::number("level", line::next_word(&mut words), 4)? as u8;
+    let ident = line::number("Data ID", line::next_word(&mut words), 4095)? as u16;
+    let kind = read_kind(&mut words)?;
+    let required = is_required(line::next_word(&mut words))?;
+    let word = line::next_word(&mut words);
+    let name = read_name(word)?;
+    line::ends(words)?;
+    let row = NamedRow {
+        index: rows.len(),
+        level,
+        ident,
+        kind,
+        required,
+        name,
+        line,
+    };
+    place_fits(&row, rows.as_slice())?;
+    if let Some(other) = sheet::find(rows.as_slice(), word) {
+        return Err(TableFault::Twice(word, other.line));
     }
+    rows.push(row);
+    Ok(())
 }

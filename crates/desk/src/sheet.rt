@@ -2,26 +2,28 @@
 
 use super::kind::Kind;
 use super::setting::Width;
-use arrayvec::ArrayVec;
+use arrayvec::{ArrayString, ArrayVec};
 use message::read::Expected;
 use payload::table::{Table, TypeRow};
 
-// The most rows of a table.
+// The most rows of a table, and the most characters of a name.
 pub const ROWS_MOST: usize = 64;
+
+pub const NAME_MOST: usize = 32;
 
 // A row of the table, with its index, its name and the line that has it.
 #[derive(Clone, Copy)]
-pub struct NamedRow<'a> {
+pub struct NamedRow {
     pub index: usize,
     pub level: u8,
     pub ident: u16,
     pub kind: Kind,
     pub required: bool,
-    pub name: &'a str,
+    pub name: ArrayString<NAME_MOST>,
     pub line: usize,
 }
 
-impl NamedRow<'_> {
+impl NamedRow {
     // The row as the library has it.
     fn type_row(&self) -> TypeRow {
         TypeRow {
@@ -43,7 +45,7 @@ impl NamedRow<'_> {
 }
 
 // What an unused place holds.
-impl Default for NamedRow<'_> {
+impl Default for NamedRow {
     fn default() -> Self {
         NamedRow {
             index: 0,
@@ -51,28 +53,26 @@ impl Default for NamedRow<'_> {
             ident: 0,
             kind: Kind::Struct,
             required: false,
-            name: "",
+            name: ArrayString::new(),
             line: 0,
         }
     }
 }
 
 // The row among some that has a name, its letters in either case. A row has its name in itself, where `word::named` takes pairs.
-pub fn find<'a>(rows: &[NamedRow<'a>], name: &[u8]) -> Option<NamedRow<'a>> {
-    rows.iter()
-        .copied()
-        .find(|row| row.name.as_bytes().eq_ignore_ascii_case(name))
+pub fn find<'a>(rows: &'a [NamedRow], name: &[u8]) -> Option<&'a NamedRow> {
+    rows.iter().find(|row| row.name.as_str().as_bytes().eq_ignore_ascii_case(name))
 }
 
 // What a table file says.
 #[derive(Drop)]
-pub struct Sheet<'a> {
+pub struct Sheet {
     pub expected: Expected,
     pub width: Width,
-    pub rows: ArrayVec<NamedRow<'a>, ROWS_MOST>,
+    pub rows: ArrayVec<NamedRow, ROWS_MOST>,
 }
 
-impl<'a> Sheet<'a> {
+impl Sheet {
     // The table as the library has it.
     pub fn table(&self) -> Table {
         let mut rows = [TypeRow::NONE; 64];
@@ -88,13 +88,13 @@ impl<'a> Sheet<'a> {
     }
 
     // The row that has a name.
-    pub fn find(&self, name: &[u8]) -> Option<NamedRow<'a>> {
+    pub fn find<'a>(&'a self, name: &[u8]) -> Option<&'a NamedRow> {
         find(&self.rows, name)
     }
 
     // The row of a number, counted from 1.
-    pub fn numbered(&self, number: u64) -> Option<NamedRow<'a>> {
+    pub fn numbered(&self, number: u64) -> Option<&NamedRow> {
         let index = number.checked_sub(1)?;
-        self.rows.get(index as usize).copied()
+        self.rows.get(index as usize)
     }
 }

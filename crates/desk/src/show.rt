@@ -43,7 +43,7 @@ fn write_head<W: Write>(out: &mut W, head: Head) -> io::Result<()> {
 fn write_rows<W: Write>(
     out: &mut W,
     reading: &Reading,
-    sheet: &Sheet<'_>,
+    sheet: &Sheet,
     payload: &[u8],
 ) -> io::Result<()> {
     for (before, (named, row)) in sheet.rows.iter().zip(&reading.rows).enumerate() {
@@ -55,7 +55,7 @@ fn write_rows<W: Write>(
 }
 
 // Shows a datagram, and answers its verdict.
-pub fn datagram<W: Write>(out: &mut W, datagram: &[u8], sheet: &Sheet<'_>) -> io::Result<Verdict> {
+pub fn datagram<W: Write>(out: &mut W, datagram: &[u8], sheet: &Sheet) -> io::Result<Verdict> {
     let answer = read::read_by_value(datagram, sheet.expected, sheet.table(), 64);
     write_verdict(out, &answer.reading)?;
     write_head(out, answer.head)?;

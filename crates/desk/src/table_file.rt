@@ -5,7 +5,6 @@
 
 use super::complaint::Complaint;
 use super::line::{self, WordFault};
-use super::row_fault::PlaceFault;
 use super::row_line;
 use super::setting::{self, Setting, SettingFault, Width};
 use super::sheet::{NamedRow, ROWS_MOST, Sheet};
@@ -26,18 +25,18 @@ struct Set<T> {
 
 // What the lines up to one have said.
 #[derive(Drop)]
-struct Draft<'a> {
+struct Draft {
     service: Option<Set<u16>>,
     method: Option<Set<u16>>,
     interface: Option<Set<u8>>,
     kind: Option<Set<MessageType>>,
     width: Option<Set<Width>>,
-    rows: ArrayVec<NamedRow<'a>, ROWS_MOST>,
+    rows: ArrayVec<NamedRow, ROWS_MOST>,
 }
 
-impl<'a> Draft<'a> {
+impl Draft {
     // Before the first line.
-    fn new() -> Draft<'a> {
+    fn new() -> Draft {
         Draft {
             service: None,
             method: None,
@@ -60,7 +59,7 @@ impl<'a> Draft<'a> {
     }
 
     // Takes what stands behind a setting's word.
-    fn set(
+    fn set<'a>(
         &mut self,
         setting: Setting,
         line: usize,
@@ -92,7 +91,7 @@ impl<'a> Draft<'a> {
     }
 
     // Takes a line whose first word is no number.
-    fn read_setting(
+    fn read_setting<'a>(
         &mut self,
         line: usize,
         word: &'a [u8],
@@ -106,21 +105,17 @@ impl<'a> Draft<'a> {
     }
 
     // Takes a line, which is a row's if it begins with a digit.
-    fn read_line(&mut self, line: usize, words: Words<'a>) -> Result<(), TableFault<'a>> {
+    fn read_line<'a>(&mut self, line: usize, words: Words<'a>) -> Result<(), TableFault<'a>> {
         let mut behind = words;
         match behind.next() {
             None => Ok(()),
-            Some([b'0'..=b'9', ..]) => {
-                let row = row_line::read(line, words, &self.rows)?;
-                self.rows.try_push(row).map_err(|_| PlaceFault::ManyRows)?;
-                Ok(())
-            }
+            Some([b'0'..=b'9', ..]) => row_line::read(line, words, &mut self.rows),
             Some(word) => self.read_setting(line, word, behind),
         }
     }
 
     // What the lines say, where no setting is missing and the table keeps its rules.
-    fn finish(self) -> Result<Sheet<'a>, TableFault<'a>> {
+    fn finish<'a>(self) -> Result<Sheet, TableFault<'a>> {
         checked(Sheet {
             expected: Expected {
                 service: ServiceId(needed(self.service, Setting::Service)?),
@@ -152,7 +147,7 @@ fn needed<'a, T: Copy>(set: Option<Set<T>>, setting: Setting) -> Result<T, Table
 }
 
 // A sheet whose table keeps its rules. The last word is the library's.
-fn checked<'a>(sheet: Sheet<'a>) -> Result<Sheet<'a>, TableFault<'a>> {
+fn checked<'a>(sheet: Sheet) -> Result<Sheet, TableFault<'a>> {
     if sheet.rows.is_empty() {
         return Err(TableFault::NoRows);
     }
@@ -163,7 +158,7 @@ fn checked<'a>(sheet: Sheet<'a>) -> Result<Sheet<'a>, TableFault<'a>> {
 }
 
 // The lines of a text, up to the first that is wrong. A generic one for values too would need a closure, and be no shorter.
-fn read_lines<'a>(text: &'a [u8]) -> Result<Draft<'a>, Complaint<TableFault<'a>>> {
+fn read_lines(text: &[u8]) -> Result<Draft, Complaint<TableFault<'_>>> {
     let mut draft = Draft::new();
     for (before, words) in text.split(|b| *b == b'\n').enumerate() {
         let line = before + 1;
@@ -175,7 +170,7 @@ fn read_lines<'a>(text: &'a [u8]) -> Result<Draft<'a>, Complaint<TableFault<'a>>
 }
 
 // The sheet of a table file's text.
-pub fn read<'a>(text: &'a [u8]) -> Result<Sheet<'a>, Complaint<TableFault<'a>>> {
+pub fn read(text: &[u8]) -> Result<Sheet, Complaint<TableFault<'_>>> {
     read_lines(text)?
         .finish()
         .map_err(|fault| Complaint::of_file(fault))

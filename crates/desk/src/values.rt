@@ -67,8 +67,8 @@ const FIELDS: [(&str, Field); 4] = [
 fn by_name<'a, 't>(
     name: &'a [u8],
     words: Words<'a>,
-    sheet: &Sheet<'t>,
-) -> Result<(NamedRow<'t>, Words<'a>), ValueFault<'a>> {
+    sheet: &'t Sheet,
+) -> Result<(&'t NamedRow, Words<'a>), ValueFault<'a>> {
     match sheet.find(name) {
         Some(row) => Ok((row, words)),
         None => Err(ValueFault::Target(TargetFault::NoName(name))),
@@ -79,8 +79,8 @@ fn by_name<'a, 't>(
 fn by_number<'a, 't>(
     number: &'a [u8],
     words: Words<'a>,
-    sheet: &Sheet<'t>,
-) -> Result<(NamedRow<'t>, Words<'a>), ValueFault<'a>> {
+    sheet: &'t Sheet,
+) -> Result<(&'t NamedRow, Words<'a>), ValueFault<'a>> {
     let n = line::number("row", number, sheet.rows.len() as u64)?;
     let Some(row) = sheet.numbered(n) else {
         return Err(ValueFault::Target(TargetFault::Row0));
@@ -97,8 +97,8 @@ fn by_number<'a, 't>(
 fn target<'a, 't>(
     first: &'a [u8],
     words: Words<'a>,
-    sheet: &Sheet<'t>,
-) -> Result<(NamedRow<'t>, Words<'a>), ValueFault<'a>> {
+    sheet: &'t Sheet,
+) -> Result<(&'t NamedRow, Words<'a>), ValueFault<'a>> {
     match first {
         [b'0'..=b'9', ..] => by_number(first, words, sheet),
         _ => by_name(first, words, sheet),
@@ -164,7 +164,7 @@ impl Values {
     fn read_value<'a>(
         &mut self,
         line: usize,
-        row: NamedRow<'_>,
+        row: &NamedRow,
         words: Words<'a>,
     ) -> Result<(), ValueFault<'a>> {
         // Each row of a sheet has a place.
@@ -184,7 +184,7 @@ impl Values {
         &mut self,
         line: usize,
         words: Words<'a>,
-        sheet: &Sheet<'_>,
+        sheet: &Sheet,
     ) -> Result<(), ValueFault<'a>> {
         let mut behind = words;
         let Some(first) = behind.next() else {
@@ -205,7 +205,7 @@ impl Values {
     pub fn read<'a>(
         &mut self,
         text: &'a [u8],
-        sheet: &Sheet<'_>,
+        sheet: &Sheet,
     ) -> Result<(), Complaint<ValueFault<'a>>> {
         for (before, words) in text.split(|b| *b == b'\n').enumerate() {
             let line = before + 1;
