@@ -104,11 +104,13 @@ fn add<'a, R: Files + Input, V: Env>(
     arguments: &Arguments<'_, V>,
     err: &mut impl Write,
 ) -> Result<(), Complaint<'a>> {
-    let adding = Adding::new(archive).of(archive)?;
-    if let Err(complaint) = adding.run(rt, arguments, err) {
-        complaint.say(err);
+    match Adding::new(archive) {
+        Ok(adding) => {
+            let _ = or_say(adding.run(rt, arguments, err), err);
+            Ok(())
+        }
+        Err(fault) => Err(fault).of(archive),
     }
-    Ok(())
 }
 
 // Does what is asked for.

@@ -51,15 +51,15 @@ impl<'b> Draft<'b> {
         })
     }
 
-    // A file's bytes added to the records.
-    fn add<R: Files + Input>(
+    // The bytes of a file added to the records.
+    fn add<'n, R: Files + Input>(
         &mut self,
         inputs: &mut Inputs<'_, R>,
-        name: &[u8],
-    ) -> Result<(), Fault> {
+        name: &'n [u8],
+    ) -> Result<(), Complaint<'n>> {
         let mut room = [0; ROOM];
-        let message = inputs.read_start(name, &mut room)?;
-        self.size = library::added(self.bytes, self.size, message)?;
+        let message = inputs.read_start(name, &mut room).of(name)?;
+        self.size = library::added(self.bytes, self.size, message).of(name)?;
         Ok(())
     }
 
@@ -93,6 +93,7 @@ pub struct Adding<'a> {
 
 impl<'a> Adding<'a> {
     // Adding to an archive that is a file by its name.
+    #[inline(never)]
     pub fn new(archive: &'a [u8]) -> Result<Adding<'a>, Fault>
         ensures name { IfOk result (λ adding. adding.new.items ≡ archive.now ++ codes ".new") }
         ensures most { IfOk result (λ adding. length archive.now ≤ NAME_MOST) }
@@ -138,9 +139,10 @@ impl<'a> Adding<'a> {
         )?;
         let mut inputs = Inputs::new(rt);
         for index in FILES_AT..arguments.len() {
-            let argument = command::argument(arguments, index);
-            let name = argument.as_bytes();
-            or_say(draft.add(&mut inputs, name).of(name), err)?;
+            or_say(
+                draft.add(&mut inputs, command::argument(arguments, index).as_bytes()),
+                err,
+            )?;
         }
         or_say(draft.close().of(self.archive), err)?;
         or_say(draft.store(new).of(&self.new), err)
