@@ -65,10 +65,7 @@ pub struct Line<'a, 'w> {
 // An argument. One that is missing has no bytes. A call of its own, so that what it is made in takes no room in its callers' frames.
 #[inline(never)]
 pub fn argument<E: Env>(arguments: &Arguments<'_, E>, i: usize) -> Argument {
-    match arguments.get(i) {
-        Some(argument) => argument,
-        None => Argument::default(),
-    }
+    arguments.get(i).unwrap_or_default()
 }
 
 // The first argument that is too long. It is none that is cut short.

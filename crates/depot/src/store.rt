@@ -51,7 +51,8 @@ impl<'b> Draft<'b> {
         })
     }
 
-    // The bytes of a file added to the records.
+    // The bytes of a file added to the records. A call of its own, so that its buffer lies in no frame while the file's name is made.
+    #[inline(never)]
     fn add<'n, R: Files + Input>(
         &mut self,
         inputs: &mut Inputs<'_, R>,
@@ -148,12 +149,14 @@ impl<'a> Adding<'a> {
         or_say(draft.store(new).of(&self.new), err)
     }
 
-    // Gives the new file the archive's name.
+    // Gives the new file the archive's name. This and the next are calls of their own, for the system's names take room.
+    #[inline(never)]
     fn rename(&self, rt: &impl Files) -> io::Result<()> {
         fs::rename(rt, file::name_of(&self.new)?, file::name_of(self.archive)?)
     }
 
     // Takes the new file off the disk.
+    #[inline(never)]
     fn remove(&self, rt: &impl Files) -> io::Result<()> {
         fs::remove_file(rt, file::name_of(&self.new)?)
     }
