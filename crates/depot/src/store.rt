@@ -140,10 +140,8 @@ impl<'a> Adding<'a> {
         )?;
         let mut inputs = Inputs::new(rt);
         for index in FILES_AT..arguments.len() {
-            or_say(
-                draft.add(&mut inputs, command::argument(arguments, index).as_bytes()),
-                err,
-            )?;
+            let argument = command::argument(arguments, index);
+            or_say(draft.add(&mut inputs, argument.as_bytes()), err)?;
         }
         or_say(draft.close().of(self.archive), err)?;
         or_say(draft.store(new).of(&self.new), err)

@@ -7,6 +7,7 @@
 #![tactic(auto)]
 
 mod complaint;
+mod content;
 mod files;
 mod float;
 mod hex;

@@ -136,13 +136,13 @@ fn message<'b, 't>(
     room: &'b mut [u8; MESSAGE_MOST],
 ) -> Result<&'b [u8], MakeFault<'t>> {
     let rows = values.rows();
-    rows_fit(&rows, &values.content, sheet)?;
+    rows_fit(&rows, values.content.as_bytes(), sheet)?;
     let written = write::write_by_value(
         header(values, sheet),
         rows,
         64,
         sheet.table(),
-        &values.content,
+        values.content.as_bytes(),
         room,
     );
     if written.verdict != Verdict::Accepted {

@@ -1,16 +1,13 @@
 // A row's value as text, behind the row's name or number. A line of show has it too, with the words that show puts before a value.
 
+use super::content::Content;
 use super::kind::{Form, Kind, Scalar};
 use super::value_fault::{ContentFault, ValueFault};
 use super::{line, number};
-use arrayvec::ArrayVec;
 use payload::row::{Row, Value};
 use text::number as text_number;
-use text::quote::{self, QuoteError};
+use text::quote::QuoteError;
 use text::word::Words;
-
-// The most bytes of content: texts and arrays of all rows.
-pub const CONTENT_MOST: usize = 65536;
 
 // The words that show puts before a number.
 const LEADS: [&str; 5] = ["unsigned", "signed", "float32", "float64", "bits"];
@@ -51,14 +48,6 @@ fn without_place(words: Words<'_>) -> Words<'_> {
     words
 }
 
-// The row of the content from a place on.
-fn run(place: usize, content: &[u8]) -> Row {
-    Row::plain(Value::Bytes {
-        place,
-        len: content.len().saturating_sub(place),
-    })
-}
-
 // What is wrong with a quotation.
 fn quote_fault(fault: QuoteError, word: &[u8]) -> ValueFault<'_> {
     ValueFault::Content(match fault {
@@ -69,10 +58,7 @@ fn quote_fault(fault: QuoteError, word: &[u8]) -> ValueFault<'_> {
 }
 
 // A text, put behind the content.
-fn read_text<'a>(
-    content: &mut ArrayVec<u8, CONTENT_MOST>,
-    words: Words<'a>,
-) -> Result<Row, ValueFault<'a>> {
+fn read_text<'a>(content: &mut Content, words: Words<'a>) -> Result<Row, ValueFault<'a>> {
     let mut words = without_place(words);
     let word = line::next_word(&mut words);
     if word.first() != Some(&b'"') {
@@ -80,13 +66,15 @@ fn read_text<'a>(
     }
     line::ends(words)?;
     let place = content.len();
-    quote::read(word, content).map_err(|fault| quote_fault(fault, word))?;
-    Ok(run(place, content))
+    content
+        .push_text(word)
+        .map_err(|fault| quote_fault(fault, word))?;
+    Ok(content.run(place))
 }
 
 // An array's elements, put behind the content.
 fn read_array<'a>(
-    content: &mut ArrayVec<u8, CONTENT_MOST>,
+    content: &mut Content,
     element: Scalar,
     words: Words<'a>,
 ) -> Result<Row, ValueFault<'a>> {
@@ -94,10 +82,10 @@ fn read_array<'a>(
     for word in without_place(words) {
         let bytes = number::read(word, element)?.bits().to_be_bytes();
         content
-            .try_extend_from_slice(&bytes[8 - element.size()..])
-            .map_err(|_| ValueFault::Content(ContentFault::LongArray))?;
+            .push(&bytes[8 - element.size()..])
+            .ok_or(ValueFault::Content(ContentFault::LongArray))?;
     }
-    Ok(run(place, content))
+    Ok(content.run(place))
 }
 
 // A present struct.
@@ -111,7 +99,7 @@ fn read_struct(words: Words<'_>) -> Result<Row, ValueFault<'_>> {
 
 // The value of a row of a kind. Texts and arrays go behind the content.
 pub fn read<'a>(
-    content: &mut ArrayVec<u8, CONTENT_MOST>,
+    content: &mut Content,
     kind: Kind,
     words: Words<'a>,
 ) -> Result<Row, ValueFault<'a>> {

@@ -7,11 +7,10 @@
 // Rows without a line are absent.
 
 use super::complaint::Complaint;
+use super::content::Content;
 use super::sheet::{NamedRow, ROWS_MOST, Sheet};
-use super::value::CONTENT_MOST;
 use super::value_fault::{TargetFault, ValueFault};
 use super::{line, value};
-use arrayvec::ArrayVec;
 use payload::row::Row;
 use text::number as text_number;
 use text::word::{self, Words};
@@ -30,7 +29,7 @@ pub struct Values {
     pub session: u16,
     pub code: u8,
     given: [Option<Given>; ROWS_MOST],
-    pub content: ArrayVec<u8, CONTENT_MOST>,
+    pub content: Content,
 }
 
 // What a line is for by its first word, where that names no row.
@@ -121,7 +120,7 @@ impl Values {
             session: 0,
             code: 0,
             given: [None; ROWS_MOST],
-            content: ArrayVec::new(),
+            content: Content::new(),
         }
     }
 

@@ -84,8 +84,8 @@ fn payload_shown(why: Verdict, end: usize) -> Part
         | Verdict::Service
         | Verdict::Interface
         | Verdict::Method
-        | Verdict::MessageType
-        | Verdict::Large => Part { at: 0, len: 0 },
+        | Verdict::MessageType => Part { at: 0, len: 0 },
+        Verdict::Large => Part { at: 0, len: 0 },
         _ => Part {
             at: header::LEN,
             len: end - header::LEN,

@@ -128,6 +128,7 @@ pub fn bits<F: Float>(word: &[u8]) -> Result<u64, DecimalError>
     }
     let text = str::from_utf8(word).map_err(|_| DecimalError::NotADecimal)?;
     let float = text.parse::<F>().map_err(|_| DecimalError::NotADecimal)?;
+    // Written so that `half_the_bits` has a number to halve.
     Ok(float.finite_bits().ok_or(DecimalError::TooLarge)?)
 }
 

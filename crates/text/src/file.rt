@@ -50,11 +50,12 @@ impl<'a, R: Files + Input> Inputs<'a, R> {
         if path == b"-".as_slice() {
             return self.standard_whole(buf);
         }
+        // Written so that `cut_file` has only to name the other function.
         Ok(input::read_whole(open(self.rt, path)?, buf)?)
     }
 
-    // The first bytes of standard input. This and the next are calls of their own, for the buffer that the reader has would lie in the frame
-    // of who reads a file.
+    // The first bytes of standard input. This and the next are calls of their own, so that the reader's buffer lies in no frame of a caller
+    // that reads a file.
     #[inline(never)]
     fn standard_start<'b>(&mut self, buf: &'b mut [u8]) -> io::Result<&'b [u8]>
         ensures bound { IfOk result (λ start. length start.now ≤ length buf.old) }

@@ -3,11 +3,8 @@
 // Printed as they are: characters from the blank on but quotation mark, backslash and delete; of more bytes, those that Unicode has but the
 // control characters. All other bytes are escaped: \" \\ \n \r \t, or \x and two hexadecimal digits.
 
-ghost use Rattle.std.specs.Prelude.{◌≡◌, ◌≤◌, ◌<◌, length, max};
-ghost use Rattle.std.specs.Io.{StartsWith};
-ghost use Rattle.arrayvec.specs.ArrayVec.{array_vec_len};
+ghost use Rattle.std.specs.Prelude.{◌≡◌, ◌≤◌, ◌<◌, IfOk, length};
 
-use arrayvec::ArrayVec;
 use std::io;
 use std::io::Write;
 
@@ -104,28 +101,26 @@ fn escape(text: &[u8]) -> Option<(u8, &[u8])>
     }
 }
 
-// Puts the text of a quotation, which begins with its mark, behind a content that has room for so many bytes. Where there is none, the
-// content has a part of it.
-pub fn read<const N: usize>(
-    quotation: &[u8],
-    content: &mut ArrayVec<u8, N>,
-) -> Result<(), QuoteError>
-    ensures bound { array_vec_len content.new ≤ max N (array_vec_len content.old) }
-    ensures kept { StartsWith content.new.items content.old.items }
+// Puts the text of a quotation, which begins with its mark, at the start of a buffer, and answers it. Where there is none, the buffer has a
+// part of it.
+pub fn read<'b>(quotation: &[u8], buf: &'b mut [u8]) -> Result<&'b [u8], QuoteError>
+    ensures bound { IfOk result (λ text. length text.now ≤ length buf.old) }
 {
+    let mut len = 0;
     let mut rest = quotation.get(1..).unwrap_or(&[]);
     while let Some((first, behind)) = rest.split_first() {
         if *first == b'"' {
-            return Ok(());
+            return Ok(&buf[..len]);
         }
-        if N <= content.len() {
+        if buf.len() <= len {
             return Err(QuoteError::TooLong);
         }
         let (byte, behind) = match first {
             b'\\' => escape(behind).ok_or(QuoteError::Escape)?,
             _ => (*first, behind),
         };
-        content.push(byte);
+        buf[len] = byte;
+        len += 1;
         rest = behind;
     }
     Err(QuoteError::Open)

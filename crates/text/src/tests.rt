@@ -8,7 +8,6 @@ use crate::quote::QuoteError;
 use crate::say::OrNone;
 use crate::word::Words;
 use crate::{decimal, input, quote};
-use arrayvec::ArrayVec;
 use std::env::FillError;
 use std::io;
 use std::io::Read;
@@ -139,20 +138,14 @@ fn reads_back_what_it_quotes(rt: HostRuntime) -> Result<(), Fail> {
         quoted.as_slice(),
         b"\"a \\\"b\\\"\\n\\x01 \xC3\xA9 \\xFF\"".as_slice()
     );
-    let mut content = ArrayVec::<u8, 12>::new();
-    assert!(rt; quote::read(quoted.as_slice(), &mut content).is_ok());
-    assert_eq!(rt; content.as_slice(), text.as_slice());
+    let mut buf = [0; 99];
     assert_eq!(rt;
-        quote::read(b"\"x\"", &mut content),
-        Err(QuoteError::TooLong)
+        quote::read(quoted.as_slice(), &mut buf[..12]),
+        Ok(text.as_slice())
     );
-    let mut roomy = ArrayVec::<u8, 99>::new();
-    roomy.try_extend_from_slice(text)?;
-    assert_eq!(rt;
-        quote::read(b"\"\\y\"", &mut roomy),
-        Err(QuoteError::Escape)
-    );
-    assert_eq!(rt; quote::read(b"\"x", &mut roomy), Err(QuoteError::Open));
+    assert_eq!(rt; quote::read(b"\"x\"", &mut []), Err(QuoteError::TooLong));
+    assert_eq!(rt; quote::read(b"\"\\y\"", &mut buf), Err(QuoteError::Escape));
+    assert_eq!(rt; quote::read(b"\"x", &mut buf), Err(QuoteError::Open));
     Ok(())
 }
 

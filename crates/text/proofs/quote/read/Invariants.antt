@@ -1,13 +1,9 @@
--- `text::quote::read`: the content keeps what it had. Each turn takes a byte or an escape off what is left.
-use Rattle.std.proofs.Common.{◌≤◌, length, max}
-use Rattle.std.specs.Io.{StartsWith}
-use Rattle.arrayvec.specs.ArrayVec.{array_vec_len}
+-- `text::quote::read`: the text so far lies in the buffer. Each turn takes a byte or an escape off what is left.
+use Rattle.std.proofs.Common.{◌≡◌, ◌≤◌, length}
 use Rattle.text.proofs.quote.read.Given as goal
 
 abbrev pub invariant-loop-first : goal.invariant-loop-first
-invariant-loop-first g l =
-    (array_vec_len l.content ≤ max g.row.N (array_vec_len l.fn.content))
-    × StartsWith l.content.items l.fn.content.items
+invariant-loop-first l = (l.len ≤ length l.buf) × (length l.buf ≡ length l.initial.buf)
 
 abbrev pub decreases-loop-first : goal.decreases-loop-first
-decreases-loop-first g l = length l.rest
+decreases-loop-first l = length l.rest
