@@ -138,7 +138,7 @@ def number_of(path, pattern):
 
 
 def source_constants(crates):
-    verdicts = re.findall(r"^    (\w+) = (\d+),$", (crates / "wire/src/verdict.rt").read_text(), re.M)
+    verdicts = re.findall(r"Verdict::(\w+) => (\d+),", (crates / "wire/src/verdict.rt").read_text())
     types = re.findall(r"const (\w+): MessageType = MessageType\((\w+)\);", (crates / "message/src/message_type.rt").read_text())
     rows = (crates / "chudopolk/src/rows.rt").read_text()
     shown = re.findall(r"Value::(\w+)\S* => numbered\((\d+),", rows) + re.findall(r"Value::(\w+) \{ place, len \} => Numbers \{\s+what: (\d+),", rows)
