@@ -40,7 +40,7 @@ fn open<'b, R: Files + Input>(
 ) -> Result<(&'b [u8], Opening), Fault>
     ensures { IfOk result (λ pair. pair.1 ≡ opening_by (archive_of pair.0.now)) }
 {
-    let file = inputs.read_start(archive, room)?;
+    let file = inputs.read_start_into(archive, room)?;
     let opening = library::opened(file)?;
     Ok((file, opening))
 }
@@ -91,7 +91,7 @@ fn take<'a, R: Files + Input>(
 ) -> Result<(), Complaint<'a>> {
     let mut inputs = Inputs::new(rt);
     let mut room = [0; ROOM];
-    let file = inputs.read_start(archive, &mut room).of(archive)?;
+    let file = inputs.read_start_into(archive, &mut room).of(archive)?;
     let found = library::found(file, asked).of(archive)?;
     show::take(out, file, found, with_line).map_err(|_| Complaint::Output)
 }

@@ -43,7 +43,7 @@ impl<'b> Draft<'b> {
     // The archive of an open file.
     fn read<F: Read + OpenFile + Drop>(old: F, bytes: &'b mut [u8]) -> Result<Draft<'b>, Fault> {
         let mode = old.metadata()?.mode();
-        let size = library::opened(input::read_start(old, &mut *bytes)?)?.size;
+        let size = library::opened(input::read_start_into(old, &mut *bytes)?)?.size;
         Ok(Draft {
             bytes,
             size,
@@ -59,7 +59,7 @@ impl<'b> Draft<'b> {
         name: &'n [u8],
     ) -> Result<(), Complaint<'n>> {
         let mut room = [0; ROOM];
-        let message = inputs.read_start(name, &mut room).of(name)?;
+        let message = inputs.read_start_into(name, &mut room).of(name)?;
         self.size = library::added(self.bytes, self.size, message).of(name)?;
         Ok(())
     }

@@ -91,12 +91,14 @@ pub fn read<'b, R: Files + io::Input>(
     ensures others { ¬ (content ≡ Content.Digits) → IfOk result (λ bytes. length bytes.now ≤ 65535) }
 {
     let len = room.len().min(content.most() + 1);
-    inputs.read_whole(path, &mut room[..len]).map_err(|error| {
-        Complaint::of_file(match error {
-            InputError::TooLong => FileFault::Long(content),
-            InputError::Unread(why) => FileFault::Unread(why),
+    inputs
+        .read_whole_into(path, &mut room[..len])
+        .map_err(|error| {
+            Complaint::of_file(match error {
+                InputError::TooLong => FileFault::Long(content),
+                InputError::Unread(why) => FileFault::Unread(why),
+            })
         })
-    })
 }
 
 // The datagram of a file, which has its bytes, or has them as hexadecimal digits. It is in a buffer, where bytes take the digits' place.

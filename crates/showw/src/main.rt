@@ -47,7 +47,7 @@ impl From<InputError> for ShowError {
 // Shows the datagram that is the whole of an input.
 fn show_datagram<S: Read + Drop, W: Write>(source: S, out: &mut W) -> Result<(), ShowError> {
     let mut room = [0; ROOM];
-    let datagram = input::read_whole(source, &mut room)?;
+    let datagram = input::read_whole_into(source, &mut room)?;
     let answer = table_w::read_w(datagram);
     show::write_answer(out, &answer, &table_w::table_w()).map_err(|_| ShowError::Unwritten)
 }

@@ -1,6 +1,6 @@
 // Files by their names, read to their ends; - is standard input.
 
-ghost use Rattle.std.specs.Prelude.{◌≡◌, ◌≢◌, ◌≤◌, ◌<◌, false, true, Err, IfOk, IsErr, codes, length};
+ghost use Rattle.std.specs.Prelude.{◌≡◌, ◌≢◌, ◌≤◌, ◌<◌, ◌+◌, false, true, Err, IfOk, IsErr, codes, length, vec_len};
 ghost use Rattle.text.specs.Input.{IsStartOfOne, IsWholeOfOne, OneFills};
 
 use super::input::InputError;
@@ -28,7 +28,7 @@ impl<'a, R: Files + Input> Inputs<'a, R> {
     }
 
     // The first bytes of a file, as many as a buffer has room for.
-    pub fn read_start<'b>(&mut self, path: &[u8], buf: &'b mut [u8]) -> io::Result<&'b [u8]>
+    pub fn read_start_into<'b>(&mut self, path: &[u8], buf: &'b mut [u8]) -> io::Result<&'b [u8]>
         ensures bound { IfOk result (λ start. length start.now ≤ length buf.old) }
         ensures file { path.now ≢ codes "-" → IfOk result (λ start. IsStartOfOne R.File.remaining (length buf.old) start.now) }
         ensures standard { path.now ≡ codes "-" → IfOk result (λ start. IsStartOfOne R.Reader.remaining (length buf.old) start.now) }
@@ -36,11 +36,15 @@ impl<'a, R: Files + Input> Inputs<'a, R> {
         if path == b"-".as_slice() {
             return self.standard_start(buf);
         }
-        input::read_start(open(self.rt, path)?, buf)
+        input::read_start_into(open(self.rt, path)?, buf)
     }
 
     // The whole of a file, which has to leave some of a buffer's room.
-    pub fn read_whole<'b>(&mut self, path: &[u8], buf: &'b mut [u8]) -> Result<&'b [u8], InputError>
+    pub fn read_whole_into<'b>(
+        &mut self,
+        path: &[u8],
+        buf: &'b mut [u8],
+    ) -> Result<&'b [u8], InputError>
         ensures bound { IfOk result (λ whole. length whole.now < length buf.old) }
         ensures file { path.now ≢ codes "-" → IfOk result (λ whole. IsWholeOfOne R.File.remaining whole.now) }
         ensures standard { path.now ≡ codes "-" → IfOk result (λ whole. IsWholeOfOne R.Reader.remaining whole.now) }
@@ -51,7 +55,7 @@ impl<'a, R: Files + Input> Inputs<'a, R> {
             return self.standard_whole(buf);
         }
         // Written so that `cut_file` has only to name the other function.
-        Ok(input::read_whole(open(self.rt, path)?, buf)?)
+        Ok(input::read_whole_into(open(self.rt, path)?, buf)?)
     }
 
     // The first bytes of standard input. This and the next are calls of their own, so that the reader's buffer lies in no frame of a caller
@@ -61,7 +65,7 @@ impl<'a, R: Files + Input> Inputs<'a, R> {
         ensures bound { IfOk result (λ start. length start.now ≤ length buf.old) }
         ensures standard { IfOk result (λ start. IsStartOfOne R.Reader.remaining (length buf.old) start.now) }
     {
-        input::read_start(self.standard()?, buf)
+        input::read_start_into(self.standard()?, buf)
     }
 
     // The whole of standard input, which has to leave some of a buffer's room.
@@ -71,7 +75,7 @@ impl<'a, R: Files + Input> Inputs<'a, R> {
         ensures standard { IfOk result (λ whole. IsWholeOfOne R.Reader.remaining whole.now) }
         ensures too_long { result ≡ Err InputError.TooLong → OneFills R.Reader.remaining (length buf.old) }
     {
-        input::read_whole(self.standard()?, buf)
+        input::read_whole_into(self.standard()?, buf)
     }
 
     // Standard input, which can't be read twice.
@@ -84,6 +88,38 @@ impl<'a, R: Files + Input> Inputs<'a, R> {
         }
         self.is_closed = true;
         Ok(self.rt.reader())
+    }
+}
+
+// The same in vectors, of a runtime that has a heap.
+impl<'a, R: Files + Input + AllocGlobal> Inputs<'a, R> {
+    // The first bytes of a file, at most so many.
+    pub fn read_start(&mut self, path: &[u8], most: usize) -> io::Result<Vec<u8>>
+        ensures bound { IfOk result (λ start. vec_len start ≤ most) }
+        ensures file { path.now ≢ codes "-" → IfOk result (λ start. IsStartOfOne R.File.remaining most start.items) }
+        ensures standard { path.now ≡ codes "-" → IfOk result (λ start. IsStartOfOne R.Reader.remaining most start.items) }
+    {
+        let alloc = self.rt.alloc();
+        if path == b"-".as_slice() {
+            return input::read_start(alloc, self.standard()?, most);
+        }
+        input::read_start(alloc, open(self.rt, path)?, most)
+    }
+
+    // The whole of a file, which may have at most so many bytes.
+    pub fn read_whole(&mut self, path: &[u8], most: usize) -> Result<Vec<u8>, InputError>
+        ensures bound { IfOk result (λ whole. vec_len whole ≤ most) }
+        ensures file { path.now ≢ codes "-" → IfOk result (λ whole. IsWholeOfOne R.File.remaining whole.items) }
+        ensures standard { path.now ≡ codes "-" → IfOk result (λ whole. IsWholeOfOne R.Reader.remaining whole.items) }
+        ensures file_too_long { path.now ≢ codes "-" → result ≡ Err InputError.TooLong → OneFills R.File.remaining (most + 1) }
+        ensures standard_too_long { path.now ≡ codes "-" → result ≡ Err InputError.TooLong → OneFills R.Reader.remaining (most + 1) }
+    {
+        let alloc = self.rt.alloc();
+        if path == b"-".as_slice() {
+            return input::read_whole(alloc, self.standard()?, most);
+        }
+        // Written so that `vector_start_halved` has only to name the other function.
+        Ok(input::read_whole(alloc, open(self.rt, path)?, most)?)
     }
 }
 

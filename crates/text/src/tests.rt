@@ -17,13 +17,13 @@ use std::test::Fail;
 #[test]
 fn reads_whole_inputs_alone(rt: HostRuntime) -> Result<(), Fail> {
     let mut room = [0; 4];
-    let whole = input::read_whole(b"abc".as_slice(), &mut room)?;
+    let whole = input::read_whole_into(b"abc".as_slice(), &mut room)?;
     assert_eq!(rt; whole, b"abc".as_slice());
-    let start = input::read_start(b"abc".as_slice(), &mut room[..2])?;
+    let start = input::read_start_into(b"abc".as_slice(), &mut room[..2])?;
     assert_eq!(rt; start, b"ab".as_slice());
     assert!(rt;
         matches!(
-            input::read_whole(b"abc".as_slice(), &mut room[..3]),
+            input::read_whole_into(b"abc".as_slice(), &mut room[..3]),
             Err(InputError::TooLong)
         )
     );
@@ -49,7 +49,7 @@ impl Read for Broken {
 #[test]
 fn tells_a_reading_that_fails(rt: HostRuntime) {
     let source = Broken { is_begun: false };
-    match input::read_whole(source, &mut [0; 10]) {
+    match input::read_whole_into(source, &mut [0; 10]) {
         Err(InputError::Unread(why)) => assert_eq!(rt; why.raw_os_error(), Some(5)),
         _ => assert!(rt; false),
     }
@@ -59,13 +59,46 @@ fn tells_a_reading_that_fails(rt: HostRuntime) {
 fn reads_files_and_standard_input_once(rt: HostRuntime) -> Result<(), Fail> {
     let mut inputs = Inputs::new(&rt);
     let mut room = [0; 5];
-    assert_eq!(rt; inputs.read_whole(b"/dev/null", &mut room[..1])?.len(), 0);
-    assert_eq!(rt; inputs.read_start(b"/dev/zero", &mut room)?.len(), 5);
-    let _ = inputs.read_start(b"-", &mut []);
-    match inputs.read_start(b"-", &mut []) {
+    assert_eq!(rt;
+        inputs.read_whole_into(b"/dev/null", &mut room[..1])?.len(),
+        0
+    );
+    assert_eq!(rt; inputs.read_start_into(b"/dev/zero", &mut room)?.len(), 5);
+    let _ = inputs.read_start_into(b"-", &mut []);
+    match inputs.read_start_into(b"-", &mut []) {
         Err(why) => assert_eq!(rt; why.raw_os_error(), Some(9)),
         Ok(_) => assert!(rt; false),
     }
+    Ok(())
+}
+
+#[test]
+fn reads_inputs_into_vectors(rt: HostRuntime) -> Result<(), Fail> {
+    let whole = input::read_whole(rt.alloc(), b"abc".as_slice(), 3)?;
+    assert_eq!(rt; whole.as_slice(), b"abc".as_slice());
+    let start = input::read_start(rt.alloc(), b"abc".as_slice(), 2)?;
+    assert_eq!(rt; start.as_slice(), b"ab".as_slice());
+    assert!(rt;
+        matches!(
+            input::read_whole(rt.alloc(), b"abc".as_slice(), 2),
+            Err(InputError::TooLong)
+        )
+    );
+    let source = Broken { is_begun: false };
+    match input::read_whole(rt.alloc(), source, 9) {
+        Err(InputError::Unread(why)) => assert_eq!(rt; why.raw_os_error(), Some(5)),
+        _ => assert!(rt; false),
+    }
+    Ok(())
+}
+
+#[test]
+fn reads_files_into_vectors_and_standard_input_once(rt: HostRuntime) -> Result<(), Fail> {
+    let mut inputs = Inputs::new(&rt);
+    assert_eq!(rt; inputs.read_whole(b"/dev/null", 0)?.len(), 0);
+    assert_eq!(rt; inputs.read_start(b"/dev/zero", 5)?.len(), 5);
+    let _ = inputs.read_start(b"-", 0);
+    assert!(rt; matches!(inputs.read_start(b"-", 0), Err(why) if why.raw_os_error() == Some(9)));
     Ok(())
 }
 
